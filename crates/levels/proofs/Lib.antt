@@ -1,0 +1,14 @@
+pub mod Sizes
+pub mod Lines
+pub mod Windows
+pub mod Levels
+pub mod Changes
+pub mod Parts
+pub mod Bounds
+pub mod Held
+pub mod Numbers
+pub mod Touched
+pub mod Means
+pub mod Squares
+pub mod SquareLaws
+pub mod Examples

@@ -1,0 +1,5 @@
+use Rattle.levels.proofs.Changes.{undone}
+use Rattle.levels.proofs.undone.Needs as need
+
+pub returns : need.returns
+returns c = undone
