@@ -2,7 +2,7 @@
 use mathlib.Core.Path.{_≡_, refl, sym, ap, _∙_}
 use mathlib.Core.List.{List}
 use mathlib.Core.Logic.{⊎-elim}
-use Prim.Native.Nat.{ℕ, zero, suc, _+_, _*_, _≤_, _<_, _/_}
+use Prim.Native.Nat.{ℕ, zero, suc, _+_, _*_, _-_, _≤_, _<_, _/_}
 use native.Mathlib.Omega.{arith}
 use native.Mathlib.Nat.{mul-le-mul, le-refl}
 use native.Mathlib.Numerals.{one-add}
@@ -62,11 +62,19 @@ pub one-shown : (k : ℕ) (ts : List ℤ) (p : Map) → Holds k 1 1 ts p → get
 unfolding tower-in tower
 one-shown k ts p o = o .same .top ∙ one-level k p
 
--- a tower of more than one place has levels
-pub some-level : (k w h : ℕ) (ts : List ℤ) (p : Map) → Holds k w h ts p → 2 < w + h → (j : ℕ) × (k ≡ suc j)
+pub top-shown : (k w h : ℕ) (ts : List ℤ) (p : Map) (x y : ℕ) → x < w → y < h → w + h ≡ 2 → Holds k w h ts p → getD ts 0 (pos 0) ≡ p x y
+top-shown k w h ts p x y hx hy e o =
+    let ew : w ≡ 1 = omega arith in
+    let eh : h ≡ 1 = omega arith in
+    let ex : x ≡ 0 = omega arith in
+    let ey : y ≡ 0 = omega arith in
+    rw (ex, ey) (one-shown k ts p (rw (ew, eh) at o))
+
+-- both sides come to one place only after some level, and so do those of the next coarser one
+pub next-level : (k w h : ℕ) → size k w ≡ 1 → size k h ≡ 1 → 2 < w + h → (j : ℕ) × (k ≡ suc j) × (size j ((w + 1) / 2) ≡ 1) × (size j ((h + 1) / 2) ≡ 1)
 unfolding size
-some-level zero w h ts p o big = absurd (let a = o .wide in let b = o .high in omega arith)
-some-level (suc j) w h ts p o big = (j, refl)
+next-level zero w h ew eh big = absurd (omega arith)
+next-level (suc j) w h ew eh big = (j, refl, size-inner j w ∙ ew, size-inner j h ∙ eh)
 
 -- one level up it holds the tower of the halved map, and beyond it the differences
 module _ (k w h : ℕ) (ts : List ℤ) (p : Map) (o : Holds (suc k) w h ts p) where
@@ -143,3 +151,11 @@ module _ (t s : Tower) where
 
   pub two-by-two : t .top ≡ s .top → t .downs 0 0 0 ≡ s .downs 0 0 0 → t .acrosses 0 0 0 ≡ s .acrosses 0 0 0 → t .acrosses 0 0 1 ≡ s .acrosses 0 0 1 → Same-tower 1 2 2 t s
   two-by-two e d a b = record { top = e; downs = one-down d; acrosses = two-across a b }
+
+-- the same numbers hold the tower of each level
+pub level-held : (l k w h : ℕ) (ts : List ℤ) (p : Map) → l ≤ k → Holds k w h ts p → Holds (k - l) (size l w) (size l h) ts (level l w h p)
+unfolding size level
+level-held zero k w h ts p lk o = let e : k - 0 ≡ k = omega arith in rw e o
+level-held (suc l) k w h ts p lk o =
+    let e : k - l ≡ suc (k - suc l) = omega arith in
+    above (k - suc l) (size l w) (size l h) ts (level l w h p) (rw e at (level-held l k w h ts p (omega arith) o))

@@ -21,6 +21,15 @@ unfolding power
 power-is zero = refl
 power-is (suc n) = rw (pow-succ' 2 n) (ap (λ (m : ℕ). 2 * m) (power-is n))
 
+pub power-more : (n d : ℕ) → power n ≤ power (n + d)
+unfolding power
+power-more n zero = rw add-zero (le-refl (power n))
+power-more n (suc d) = rw add-suc (omega (arith, power-more n d))
+
+pub power-most : (n : ℕ) → n ≤ 7 → power n ≤ 128
+unfolding power
+power-most n h = let e : n + (7 - n) ≡ 7 = omega arith in rw e at (power-more n (7 - n))
+
 -- a place one level up
 pub div-power : (x l : ℕ) → x / power (suc l) ≡ x / power l / 2
 unfolding power

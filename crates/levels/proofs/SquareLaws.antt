@@ -20,7 +20,7 @@ use Rattle.levels.proofs.Changes as Sized-changes
 use Rattle.levels.proofs.Windows as Sized-windows
 use Rattle.levels.proofs.Parts as Sized-parts
 use Rattle.levels.proofs.Parts.{level-level}
-use Rattle.levels.proofs.Squares.{size-power, whole, level-whole, across-whole, down-whole, towers-same, numbering-same, to-square, from-square, same-sym, same-trans, shown-whole, shows-same}
+use Rattle.levels.proofs.Squares.{size-power, size-end, whole, level-whole, across-whole, down-whole, towers-same, numbering-same, to-square, from-square, same-sym, same-trans, shown-whole, shows-same}
 
 -- a tower that has the numbers of a map's, in the words with sizes
 held : (k : ℕ) (t : Tower) (p : Map) → Same-tower k t (tower k p) → Sized-towers.Same-tower k (power k) (power k) t (Sized-towers.tower k (power k) (power k) p)
@@ -28,11 +28,9 @@ held k t p o = from-square k t (Sized-towers.tower k (power k) (power k) p) (sam
 
 pub shows-held : Shows-held
 shows-held k l t p x y lk hx hy o =
-    let e : k - k ≡ 0 = omega arith in
-    let one : size k (power k) ≡ 1 = size-power k k (le-refl k) ∙ rw e (unfold power in refl) in
     let s = size-power k l lk in
     sym (shows-same k l x y t lk hx hy)
-    ∙ Sized-levels.shows-held k (power k) (power k) l t p x y one one lk (rw s hx) (rw s hy) (held k t p o)
+    ∙ Sized-levels.shows-held k (power k) (power k) l t p x y (size-end k) (size-end k) lk (rw s hx) (rw s hy) (held k t p o)
     ∙ level-whole l (power k) (power k) p x y (whole k l x lk hx) (whole k l y lk hy)
 
 pub shows-all : Shows-all

@@ -40,6 +40,9 @@ pub size-twice : (k l : ℕ) → l < k → size l (power k) ≡ 2 * power (k - s
 unfolding power
 size-twice k l h = let s : k - l ≡ suc (k - suc l) = omega arith in size-power k l (omega arith) ∙ ap power s
 
+pub size-end : (k : ℕ) → size k (power k) ≡ 1
+size-end k = let e : k - k ≡ 0 = omega arith in size-power k k (le-refl k) ∙ rw e (unfold power in refl)
+
 -- the square of a place of a level lies wholly on the map
 pub whole : (k l x : ℕ) → l ≤ k → x < power (k - l) → (x + 1) * power l ≤ power k
 whole k l x h hx =

@@ -23,7 +23,7 @@ at-most-one : (b : Bool) (i : ℕ) → length (cond b (i ∷ []) []) ≤ 1
 at-most-one true i = omega arith
 at-most-one false i = omega arith
 
-few : (k w h x y : ℕ) → length (touched k w h x y) ≤ 1 + 2 * k
+pub few : (k w h x y : ℕ) → length (touched k w h x y) ≤ 1 + 2 * k
 unfolding touched
 few zero w h x y = omega arith
 few (suc k) w h x y = simp length-append

@@ -1,2 +1,5 @@
 pub mod Quads
 pub mod Written
+pub mod Lent
+pub mod Back
+mod Vectors

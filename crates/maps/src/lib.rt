@@ -8,18 +8,20 @@ ghost use Rattle.pairs.specs.Pairs.{Height, max-height};
 ghost use Rattle.levels.specs.Maps.{power};
 ghost use Rattle.maps.specs.Limits.{max-k, max-side};
 
+mod lanes;
+pub mod layout;
 pub mod quad;
 pub mod rows;
 
 // A map that is lent: so many places across and down, and its heights row by row.
 #[derive(Clone, Copy)]
-pub struct Map<'a> {
+pub struct HeightMap<'a> {
     pub wide: usize,
     pub high: usize,
     pub heights: &'a [i32],
 }
 
-impl Map<'_> {
+impl HeightMap<'_> {
     // The most levels, the longest side and the largest height.
     pub const MAX_K: u64 = 7;
 

@@ -12,7 +12,7 @@ use Rattle.std.proofs.shelf.Signed.{toZ-ofZ, wrapped-fits}
 use Rattle.pairs.specs.Pairs.{half, mean-of, difference-of, first-of, second-of, Height, Difference}
 use Rattle.pairs.proofs.Half.{half-is}
 
-shift-is : (z : ℤ) → shrZ z 2 ≡ half z
+pub shift-is : (z : ℤ) → shrZ z 2 ≡ half z
 unfolding half
 shift-is (pos n) = refl
 shift-is (negsuc n) = refl

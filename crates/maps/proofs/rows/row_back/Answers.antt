@@ -1,28 +1,24 @@
-use borrow.Author.Needs.{needs}
-use mathlib.Core.Path.{_≡_, refl, _∙_}
-use Prim.Native.Nat.{ℕ, _+_, _*_, _/_, _<_}
+use mathlib.Core.Path.{refl}
+use Prim.Native.Nat.{_*_, _+_, _-_, _/_, _<_, _≤_}
 use native.Mathlib.Omega.{arith}
 use lib.ListN.{length}
-use mir.Syntax.{w32}
-use mir.Val.{SFits}
-use Rattle.std.proofs.shelf.Signed.{toZ-ofZ}
-use Rattle.pairs.specs.Pairs.{first-of, second-of}
-use Rattle.pairs.proofs.Exact.{one-read, read-height}
-use Rattle.maps.proofs.Written.{back-more, back-last}
+use Rattle.pairs.proofs.Exact.{read-height}
+use Rattle.maps.proofs.Back.{whole-back, last-back}
 use Rattle.maps.proofs.rows.row_back.Needs as need
+use Rattle.maps.proofs.rows.row_back.Needs.{else-w-gt0·by·then-w-gt0·else-from-w, else-w-gt0·by·else-w-gt0}
 
-pub loop-i-again : need.loop-i-again
-loop-i-again c =
-    let f : SFits w32 (c .first .result) = search needs in
-    let g : SFits w32 (c .second .result) = search needs in
-    back-more (length (c .args .row .now)) (c .args .means .now) (c .args .differences .now) (c .loop-i .row) (c .loop-i .i) _ _ (omega arith) (omega arith)
-    (λ hm hd. toZ-ofZ w32 _ f ∙ one-read first-of _ _ _ _ _ refl refl hm hd (c .first .ensures .exact))
-    (λ hm hd. toZ-ofZ w32 _ g ∙ one-read second-of _ _ _ _ _ refl refl hm hd (c .second .ensures .exact))
-    (c .loop-i .inv)
+pub returns-then-from-w : need.returns-then-from-w
+returns-then-from-w c i j hi ej =
+    let ms = c .args .means .now in
+    let w = length (c .args .row .now) in
+    last-back (c .args .places) (c .args .from) (w - 1) ms (c .args .differences .now) _ (c .args .row .now) (c .pairs-back .last .row) _ (omega arith) (omega arith) (omega arith) (omega arith) (omega arith)
+    (λ b eb. rw eb (read-height _ _ refl)) (λ b d hb ed. c .pairs-back .ensures b d (omega arith) ed) i j (omega arith) ej
 
-pub returns-then-row-eq1 : need.returns-then-row-eq1
-returns-then-row-eq1 c =
-    let n = length (c .args .row .now) in
-    let ei : c .loop-i .i ≡ length (c .args .row .now) / 2 = omega arith in
-    back-last n (c .args .means .now) (c .args .differences .now) (c .loop-i .row) (length (c .args .row .now) / 2) _ (omega arith) (omega arith)
-    (λ hm. read-height _ _ refl hm) (rw ei at (c .loop-i .inv))
+pub returns-else-w-gt0 : need.returns-else-w-gt0
+returns-else-w-gt0 c =
+    let n = c .args .places in
+    let x = c .args .from in
+    let w = length (c .args .row .now) in
+    let whole : 0 < length (c .args .row .now) → c .args .from + length (c .args .row .now) ≤ 2 * (c .args .places / 2) =
+    λ some. elim (c .else-w-gt0 .came) [ else-w-gt0·by·then-w-gt0·else-from-w t ↦ omega arith | else-w-gt0·by·else-w-gt0 t ↦ omega arith ] in
+    whole-back n x w _ _ _ whole (c .pairs-back-else-w-gt0 .ensures)

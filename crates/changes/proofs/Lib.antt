@@ -1,0 +1,4 @@
+mod Raising
+mod Levels
+pub mod Touched
+mod Carrying

@@ -1,0 +1,4 @@
+pub mod Checks
+pub mod Known
+pub mod Calls
+pub mod Runs
