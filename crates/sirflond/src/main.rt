@@ -1,5 +1,7 @@
 // Reads a map and commands from standard input, a line each, and shows windows and towers.
 ghost use Rattle.std.specs.Options.{Cases};
+use parts::check_coarse;
+use parts::coarse;
 use refusals::Refusal;
 use std::alloc::AllocError;
 use std::alloc::Global;
@@ -32,6 +34,7 @@ enum Command {
     Window(u64, u64, u64, u64),
     Set(u64, u64, u64),
     Tower,
+    Coarse(u64),
 }
 
 // A number of digits alone.
@@ -61,6 +64,7 @@ fn read_command(line: &str) -> Option<Command> {
             read_number(words.next()?)?,
         ),
         "tower" => Command::Tower,
+        "coarse" => Command::Coarse(read_number(words.next()?)?),
         _ => return None,
     };
     if words.next().is_some() {
@@ -172,6 +176,10 @@ fn obey(rt: &LibcRuntime, shown: &mut Shown, command: Command, line: u64) -> Res
             }
         }
         Command::Tower => print_numbers(rt, &shown.tower)?,
+        Command::Coarse(level) => match check_coarse(shown.k, shown.tower.len(), level) {
+            Ok(_) => print_numbers(rt, coarse(shown.k, &shown.tower, level))?,
+            Err(refusal) => print_refusal(rt, refusal)?,
+        },
         Command::Map(_) => print_refusal(rt, Refusal::Unreadable(line))?,
     }
     Ok(())

@@ -18,7 +18,7 @@ use maps::HeightMap;
 use refusals::Refusal;
 
 // The side of a map of k levels.
-fn side_of(k: u64) -> Result<usize, Refusal>
+pub fn side_of(k: u64) -> Result<usize, Refusal>
     ensures { λ r. ⌜ Cases r (λ s. Side-of k s) (λ e. (max-k < k) × (e ≡ TooManyLevels k)) ⌝ }
 {
     match HeightMap::side(k) {
@@ -71,7 +71,7 @@ fn check_map(heights: &[i32], many: usize) -> Result<(), Refusal>
 }
 
 // A list of so many numbers that should have so many.
-fn check_length(length: usize, many: usize) -> Result<(), Refusal>
+pub fn check_length(length: usize, many: usize) -> Result<(), Refusal>
     ensures { λ r. ⌜ Cases r (λ _. length ≡ many) (λ e. (length ≡ many → ⊥) × (e ≡ WrongNumber (min length many))) ⌝ }
 {
     if length == many {

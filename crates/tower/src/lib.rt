@@ -5,7 +5,7 @@ ghost use Rattle.tower.specs.Calls.{Built-tower, Changed-tower, Entered, Shown
 ghost use Rattle.tower.specs.Checks.{build-refusal, change-refusal, window-refusal};
 
 pub mod calls;
-mod checks;
+pub mod checks;
 pub mod runs;
 
 #[derive(Clone, Copy, PartialEq, Eq, Debug)]

@@ -1,4 +1,8 @@
 // Random maps, windows and changes beside copies that are halved from the start. Prints how many cases agree.
+use parts::assembly::assemble;
+use parts::coarse;
+use parts::detail;
+use parts::join;
 use std::alloc::AllocError;
 use std::alloc::Global;
 use std::error::AnyError;
@@ -233,12 +237,99 @@ fn change_agrees(
     Ok(differ(&before, tower) <= k.saturating_mul(2).saturating_add(1) && differ(&anew, tower) == 0)
 }
 
+// The coarse part for a level beside the tower of the copy at that level, and its windows beside copies of that.
+fn part_agrees(
+    heap: Global,
+    random: &mut Random,
+    k: u64,
+    tower: &[i32],
+    map: &[i32],
+    level: u64,
+) -> Result<bool, AllocError> {
+    let fewer = k.saturating_sub(level);
+    let copy = level_of(heap, map, k, level)?;
+    let mut anew = vec![in heap; 0; copy.len()]?;
+    if build(fewer, &copy, &mut anew) != Done::Built {
+        return Ok(false);
+    }
+    let part = coarse(k, tower, level);
+    let windows = levels_agree(heap, random, fewer, part, &copy)?;
+    Ok(
+        differ(part, &anew) == 0
+            && part.len() == anew.len()
+            && windows == fewer.wrapping_add(1).wrapping_mul(8),
+    )
+}
+
+// A tower taken apart and put together again, level by level: whether each step is the coarse part of the next level.
+fn steps_agree(heap: Global, k: u64, tower: &[i32]) -> Result<bool, AllocError> {
+    let mut grown = coarse(k, tower, k).to_vec(heap)?;
+    for step in 1..k.saturating_add(1) {
+        let level = k.saturating_sub(step);
+        let part = coarse(k, tower, level);
+        let mut room = vec![in heap; 0; part.len()]?;
+        if join(step, &grown, detail(k, tower, level), &mut room).is_err()
+            || differ(&room, part) != 0
+        {
+            return Ok(false);
+        }
+        grown = room;
+    }
+    Ok(differ(&grown, tower) == 0)
+}
+
+// The i-th part of a tower of k levels: the top, and then the details, the coarsest first.
+fn part_of(k: u64, tower: &[i32], i: u64) -> &[i32] {
+    if i == 0 {
+        coarse(k, tower, k)
+    } else {
+        detail(k, tower, k.wrapping_sub(i))
+    }
+}
+
+// The tower from all its parts at once; one part less is refused and nothing written.
+fn whole_agrees(heap: Global, k: u64, tower: &[i32]) -> Result<bool, AllocError> {
+    let mut list = Vec::new(heap);
+    for i in 0..k.saturating_add(1) {
+        list.push(part_of(k, tower, i))?;
+    }
+    let mut room = vec![in heap; 7; tower.len()]?;
+    let before = room.as_slice().to_vec(heap)?;
+    let fewer = list.as_slice().get(1..).unwrap_or(&[]);
+    if assemble(k, fewer, &mut room).is_ok() || differ(&room, &before) != 0 {
+        return Ok(false);
+    }
+    Ok(assemble(k, &list, &mut room).is_ok() && differ(&room, tower) == 0)
+}
+
+// How many parts of a tower agree, and whether it can be put together again.
+fn parts_agree(
+    heap: Global,
+    random: &mut Random,
+    k: u64,
+    tower: &[i32],
+    map: &[i32],
+) -> Result<u64, AllocError> {
+    let mut count: u64 = 0;
+    for level in 0..k.saturating_add(1) {
+        if part_agrees(heap, random, k, tower, map, level)? {
+            count = count.wrapping_add(1);
+        }
+    }
+    if steps_agree(heap, k, tower)? && whole_agrees(heap, k, tower)? {
+        Ok(count)
+    } else {
+        Ok(0)
+    }
+}
+
 // What agrees of the maps of k levels.
 #[derive(Drop)]
 struct Agreed {
     maps: u64,
     windows: u64,
     changes: u64,
+    parts: u64,
 }
 
 // Maps of k levels: built, shown, changed a few times, and shown again.
@@ -247,6 +338,7 @@ fn try_maps(heap: Global, random: &mut Random, k: u64, many: u64) -> Result<Agre
         maps: 0,
         windows: 0,
         changes: 0,
+        parts: 0,
     };
     let side = side_of(k, 0);
     for _ in 0..many {
@@ -266,6 +358,9 @@ fn try_maps(heap: Global, random: &mut Random, k: u64, many: u64) -> Result<Agre
         agreed.windows = agreed
             .windows
             .wrapping_add(levels_agree(heap, random, k, &tower, &map)?);
+        agreed.parts = agreed
+            .parts
+            .wrapping_add(parts_agree(heap, random, k, &tower, &map)?);
     }
     Ok(agreed)
 }
@@ -277,8 +372,8 @@ fn main(rt: LibcRuntime) -> Result<(), AnyError> {
         let agreed = try_maps(rt.alloc(), &mut random, k, many)?;
         println!(
             rt,
-            "{k} levels: {} maps, {} windows, {} changes agree",
-            agreed.maps, agreed.windows, agreed.changes
+            "{k} levels: {} maps, {} windows, {} changes, {} parts agree",
+            agreed.maps, agreed.windows, agreed.changes, agreed.parts
         )?;
     }
     Ok(())

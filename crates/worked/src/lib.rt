@@ -3,6 +3,15 @@ use maps::quad::Quad;
 use maps::rows::halve_row;
 use maps::rows::row_back;
 use pairs::Pair;
+use parts::assembly::assemble;
+use parts::check_coarse;
+use parts::check_detail;
+use parts::coarse;
+use parts::detail;
+use parts::join;
+use refusals::Refusal;
+use refusals::RefusalDebug;
+use refusals::RefusalPartialEq;
 use tower::Done;
 use tower::DoneDebug;
 use tower::DonePartialEq;
@@ -183,5 +192,108 @@ mod tests {
         let mut room = [0; 4];
         check_eq(window(1, &tower, 0, 0, 0, 2, 2, &mut room), Done::Shown)?;
         check_eq(change(1, &mut tower, 1, 1, 65535), Done::Changed)
+    }
+
+    // The tower of four by four places begins with that of two by two, and that with that of one place.
+    #[test]
+    fn parts_of_a_tower() -> Result<(), Fail> {
+        check_eq(coarse(2, &TOWER, 0), TOWER.as_slice())?;
+        check_eq(coarse(2, &TOWER, 1), [4, -1, -2, -2].as_slice())?;
+        check_eq(coarse(2, &TOWER, 2), [4].as_slice())?;
+        check_eq(detail(2, &TOWER, 1), [-1, -2, -2].as_slice())?;
+        check_eq(
+            detail(2, &TOWER, 0),
+            [-4, -4, 9, 6, -1, -1, -1, -1, 0, 0, 0, -7].as_slice(),
+        )?;
+        let mut halved = [0; 4];
+        check_eq(build(1, &[3, 5, 4, 6], &mut halved), Done::Built)?;
+        check_eq(coarse(2, &TOWER, 1), halved.as_slice())
+    }
+
+    #[test]
+    fn no_such_part() -> Result<(), Fail> {
+        check_eq(coarse(2, &TOWER, 3).len(), 0)?;
+        check_eq(coarse(1, &TOWER, 1).len(), 0)?;
+        check_eq(coarse(8, &TOWER, 1).len(), 0)?;
+        check_eq(detail(2, &TOWER, 2).len(), 0)?;
+        check_eq(check_coarse(2, 16, 3), Err(Refusal::NoSuchLevel))?;
+        check_eq(check_coarse(2, 17, 3), Err(Refusal::WrongNumber(16)))?;
+        check_eq(check_coarse(8, 17, 3), Err(Refusal::TooManyLevels(8)))?;
+        check_eq(check_detail(2, 15, 2), Err(Refusal::WrongNumber(15)))?;
+        check_eq(check_detail(2, 16, 2), Err(Refusal::NoSuchLevel))
+    }
+
+    // A window of the coarse part is one of the whole, a level on.
+    #[test]
+    fn a_window_of_a_part() -> Result<(), Fail> {
+        let mut of_part = [0; 4];
+        let mut of_whole = [0; 4];
+        check_eq(
+            window(1, coarse(2, &TOWER, 1), 0, 0, 0, 2, 2, &mut of_part),
+            Done::Shown,
+        )?;
+        check_eq(window(2, &TOWER, 1, 0, 0, 2, 2, &mut of_whole), Done::Shown)?;
+        check_eq(of_part, [3, 5, 4, 6])?;
+        check_eq(of_whole, [3, 5, 4, 6])
+    }
+
+    #[test]
+    fn grown_from_parts() -> Result<(), Fail> {
+        let mut room = [0; 4];
+        check_eq(join(1, &[4], &[-1, -2, -2], &mut room), Ok(()))?;
+        check_eq(room, [4, -1, -2, -2])?;
+        let mut whole = [0; 16];
+        check_eq(
+            assemble(
+                2,
+                &[
+                    &[4],
+                    &[-1, -2, -2],
+                    &[-4, -4, 9, 6, -1, -1, -1, -1, 0, 0, 0, -7],
+                ],
+                &mut whole,
+            ),
+            Ok(()),
+        )?;
+        check_eq(whole, TOWER)
+    }
+
+    #[test]
+    fn parts_that_do_not_fit() -> Result<(), Fail> {
+        let mut room = [7; 4];
+        let place = Err(Refusal::WrongNumber(1));
+        check_eq(
+            join(8, &[4], &[1, 2, 3], &mut room),
+            Err(Refusal::TooManyLevels(8)),
+        )?;
+        check_eq(join(0, &[4], &[], &mut room), Err(Refusal::NoSuchLevel))?;
+        check_eq(join(1, &[4, 5], &[1, 2, 3], &mut room), place)?;
+        check_eq(
+            join(1, &[], &[1, 2, 3], &mut room),
+            Err(Refusal::WrongNumber(0)),
+        )?;
+        check_eq(
+            join(1, &[4], &[1, 2], &mut room),
+            Err(Refusal::WrongNumber(3)),
+        )?;
+        check_eq(
+            join(1, &[4], &[1, 2, 3, 4], &mut room),
+            Err(Refusal::WrongNumber(4)),
+        )?;
+        check_eq(
+            join(1, &[4], &[1, 2, 3], &mut room[0..3]),
+            Err(Refusal::WrongRoom(3)),
+        )?;
+        check_eq(assemble(1, &[&[4]], &mut room), place)?;
+        check_eq(
+            assemble(1, &[&[4], &[1, 2, 3], &[5]], &mut room),
+            Err(Refusal::WrongNumber(4)),
+        )?;
+        check_eq(
+            assemble(1, &[&[4], &[1, 2]], &mut room),
+            Err(Refusal::WrongNumber(3)),
+        )?;
+        check_eq(assemble(0, &[&[4]], &mut room), Err(Refusal::WrongRoom(4)))?;
+        check_eq(room, [7; 4])
     }
 }
