@@ -1,23 +1,30 @@
 -- A change carried through one level: what the numbers are then. Assumes nothing.
-use mathlib.Core.Path.{_≡_, refl, sym, _∙_}
+use mathlib.Core.Path.{_≡_, refl, sym, ap, _∙_}
 use mathlib.Core.Bool.{_&&_}
 use mathlib.Core.List.{List}
-use mathlib.Core.Logic.{⊎-elim}
-use Prim.Native.Nat.{ℕ, suc, _+_, _*_, _≤_, _<_, _/_}
+use mathlib.Core.Logic.{_≢_, ⊎-elim}
+use Prim.Native.Nat.{ℕ, suc, _+_, _*_, _^_, _≤_, _<_, _/_, _%_}
 use native.Mathlib.Omega.{arith}
+use borrow.Author.Differences.{ints}
 use lib.Dec.{eqb}
 use lib.IntN.{ℤ, pos, _+ℤ_}
-use lib.ListN.{getD}
+use lib.ListN.{getD, length, set}
+use mir.Syntax.{w32}
+use mir.Val.{SFits, toZ, ofZ}
 use Rattle.std.specs.shelf.Lists.{Has}
+use Rattle.std.specs.shelf.Signed.{wrapped}
+use Rattle.std.proofs.shelf.Lists.{getD-set-same, getD-set-other}
+use Rattle.std.proofs.shelf.Signed.{toZ-ofZ, wrapped-fits, wrapping-add-bits}
 use Rattle.std.proofs.shelf.Tests.{cases-eq, cond-both}
 use Rattle.pairs.specs.Pairs.{Height}
 use Rattle.levels.specs.Maps.{Map, size, means, across, halved, down, with-height}
 use Rattle.levels.specs.Numbering.{Holds, across-index, down-index, touched}
 use Rattle.levels.proofs.Changes.{Same-off, with-off, with-at, off-with, means-off, across-off, halved-off, down-off}
 use Rattle.levels.proofs.Numbers.{row-same, downs-under, acrosses-past}
-use Rattle.levels.proofs.Touched.{has-across-0, has-down-0, has-coarser}
-use Rattle.levels.proofs.Held.{above, below, held-by, one-held, across-there, down-there, halved-height}
-use Rattle.changes.specs.Lines.{Difference-at, Raised}
+use Rattle.levels.proofs.Touched.{has-across-0, has-down-0, has-coarser, has-top}
+use Rattle.levels.proofs.Held.{above, below, held-by, one-held, top-shown, across-there, down-there, halved-height}
+use Rattle.places.specs.Lines.{Difference-at}
+use Rattle.changes.specs.Carried.{Carried, Raised}
 use Rattle.changes.proofs.Touched.{touched-within}
 
 -- us are the numbers ts but at an index, and only if the pair is whole
@@ -112,14 +119,35 @@ module _ (k w h x y i j : ℕ) (ts us vs zs : List ℤ) (hx : x < w) (hy : y < h
         below k w h zs q hs (rw (halved-with w h p x y (p x y +ℤ by) _ rise) at (carried coarser top)) downs-new acrosses-new
 
 -- one place is left
-pub top-carried : (k w h x y : ℕ) (us : List ℤ) (p : Map) (g : ℤ) → x < w → y < h → w + h ≡ 2 → Height g → getD us 0 (pos 0) ≡ g → Holds k w h us (with-height p x y g)
-top-carried k w h x y us p g hx hy e hg eg =
+top-held : (k w h x y : ℕ) (us : List ℤ) (p : Map) (g : ℤ) → x < w → y < h → w + h ≡ 2 → Height g → getD us 0 (pos 0) ≡ g → Holds k w h us (with-height p x y g)
+top-held k w h x y us p g hx hy e hg eg =
     let ew : w ≡ 1 = omega arith in
     let eh : h ≡ 1 = omega arith in
     let ex : x ≡ 0 = omega arith in
     let ey : y ≡ 0 = omega arith in
     rw (ew, eh, ex, ey) (one-held k us (with-height p 0 0 g) (rw (with-at p 0 0 g) hg) (eg ∙ sym (with-at p 0 0 g)))
 
+pub sum-bits : (z : ℤ) (b : ℕ) → SFits w32 z → b < 2 ^ 32 → toZ w32 ((ofZ w32 z + b) % 2 ^ 32) ≡ wrapped w32 (z +ℤ toZ w32 b)
+sum-bits z b f hb = wrapping-add-bits w32 (ofZ w32 z) b (omega (arith, ints)) hb ∙ ap (λ y. wrapped w32 (y +ℤ toZ w32 b)) (toZ-ofZ w32 z f)
+
+pub top-carried : (w h x y : ℕ) (by v : ℤ) (ts : List ℤ) → x < w → y < h → w + h ≡ 2 → 0 < length ts → v ≡ wrapped w32 (getD ts 0 (pos 0) +ℤ by) → Carried w h x y by ts (set ts 0 v)
+top-carried w h x y by v ts hx hy e room ev = record {
+  holds = λ k p o hg.
+      let f : SFits w32 (p x y +ℤ by) = omega (arith, ints) in
+      top-held k w h x y _ p _ hx hy e hg (getD-set-same ts 0 v (pos 0) room ∙ ev ∙ ap (λ z. wrapped w32 (z +ℤ by)) (top-shown k w h ts p x y hx hy e o) ∙ wrapped-fits w32 _ f);
+  rest = λ k i _ _ n. let ne : i ≢ 0 = λ z. n (rw z (has-top k w h x y)) in rw getD-set-other;
+}
+
+-- a change by the same number
+pub carried-by : {w h x y : ℕ} {a b : ℤ} {ts us : List ℤ} → a ≡ b → Carried w h x y a ts us → Carried w h x y b ts us
+carried-by e o = rw e at o
+
 -- nothing changes
-pub none-carried : (k w h x y : ℕ) (ts : List ℤ) (p : Map) (g : ℤ) → g ≡ p x y → Holds k w h ts p → Holds k w h ts (with-height p x y g)
-none-carried k w h x y ts p g e o = let s : with-height p x y g ≡ p = rw e (sym (off-with p p x y (λ u v _. refl))) in rw s o
+pub none-carried : (w h x y : ℕ) (by : ℤ) (ts : List ℤ) → by ≡ pos 0 → Carried w h x y by ts ts
+none-carried w h x y by ts e = record {
+  holds = λ k p o _.
+      let z : p x y +ℤ by ≡ p x y = omega (arith, ints) in
+      let s : with-height p x y (p x y +ℤ by) ≡ p = rw z (sym (off-with p p x y (λ u v _. refl))) in
+      rw s o;
+  rest = λ k i _ _ _. refl;
+}

@@ -1,4 +1,3 @@
 mod Raising
-mod Levels
 pub mod Touched
 mod Carrying

@@ -1,4 +1,4 @@
--- A pair of a line, shown, and with one of its heights raised. Assumes nothing.
+-- A pair of a line with one of its heights raised. Assumes nothing.
 use mathlib.Core.Path.{_≡_, refl, sym, ap, _∙_}
 use mathlib.Core.Logic.{⊎-elim}
 use Prim.Native.Nat.{ℕ, _+_, _*_, _-_, _^_, _≤_, _<_, _/_, _%_}
@@ -13,12 +13,13 @@ use Rattle.std.specs.shelf.Signed.{wrapped}
 use Rattle.std.proofs.shelf.Bits.{and-mask}
 use Rattle.std.proofs.shelf.Signed.{toZ-ofZ, toZ-pos, wrapped-fits, wrapping-add-onto, wrapping-add-is, wrapping-sub-is}
 use Rattle.std.proofs.shelf.Tests.{cases-eq}
-use Rattle.pairs.specs.Pairs.{half, Height, Difference, first-of, second-of, one-of}
-use Rattle.pairs.proofs.Half.{half-is, one-first, one-second}
+use Rattle.pairs.specs.Pairs.{half, Difference}
+use Rattle.pairs.proofs.Half.{half-is}
 use Rattle.pairs.proofs.Exact.{shift-bits}
 use Rattle.levels.specs.Maps.{line-up, apart}
-use Rattle.levels.proofs.Lines.{up-pair, up-last, down-pair, down-last, line-back, up-height, apart-difference}
-use Rattle.changes.specs.Lines.{Heights, Raised}
+use Rattle.levels.proofs.Lines.{up-pair, up-last, apart-difference}
+use Rattle.places.specs.Lines.{Heights}
+use Rattle.changes.specs.Carried.{Raised}
 
 -- a number is twice its half and its lowest bit
 lowest-bit : (d : ℤ) → SFits w32 d → d ≡ half d +ℤ half d +ℤ pos (ofZ w32 d % 2)
@@ -40,27 +41,6 @@ mean-bits a b d by fd fb hb e =
     let sum : toZ w32 ((n + ofZ w32 by) % 2 ^ 32) ≡ pos n +ℤ by = wrapping-add-onto w32 n by (omega arith) fb ∙ ap (λ z. wrapped w32 (z +ℤ by)) (toZ-pos w32 n (omega arith)) ∙ wrapped-fits w32 (pos n +ℤ by) f in
     let shift : toZ w32 (ofZ w32 (shrZ (pos n +ℤ by) 2)) ≡ half (pos n +ℤ by) = rw (toZ-ofZ w32 (pos n +ℤ by) f) at (shift-bits (pos n +ℤ by) f) in
     rw (sum, shift, bit) (mean-rises a b d by fd e)
-
--- any place of a line of heights
-module _ (n : ℕ) (f : ℕ → ℤ) (x : ℕ) (hx : x < n) where
-  pub last-shown : (m : ℤ) → n ≤ 2 * (x / 2) + 1 → m ≡ line-up n f (x / 2) → m ≡ f x
-  last-shown m alone e = e ∙ sym (down-last n x (line-up n f (x / 2)) (apart f (x / 2)) alone) ∙ line-back n f x hx
-
-  module _ (m d r : ℤ) (whole : 2 * (x / 2) + 1 < n) (hf : Heights n f) (em : m ≡ line-up n f (x / 2)) (ed : d ≡ apart f (x / 2)) where
-    mean-height : Height m
-    mean-height = rw em (up-height n f (x / 2) hf (omega arith))
-
-    is-difference : Difference d
-    is-difference = rw ed (apart-difference f (x / 2) (hf (2 * (x / 2)) (omega arith)) (hf (2 * (x / 2) + 1) whole))
-
-    back : one-of x m d ≡ f x
-    back = rw (em, ed) (sym (down-pair n x (line-up n f (x / 2)) (apart f (x / 2)) whole) ∙ line-back n f x hx)
-
-    pub first-shown : x % 2 ≡ 0 → (Height m → Difference d → r ≡ first-of m d) → r ≡ f x
-    first-shown even e = e mean-height is-difference ∙ sym (one-first x m d even) ∙ back
-
-    pub second-shown : (x % 2 ≡ 0 → ⊥) → (Height m → Difference d → r ≡ second-of m d) → r ≡ f x
-    second-shown odd e = e mean-height is-difference ∙ sym (one-second x m d (omega arith)) ∙ back
 
 -- a line of which the height at x is raised
 module _ (n : ℕ) (f g : ℕ → ℤ) (x : ℕ) (by : ℤ) (o : Raised f g x by) where

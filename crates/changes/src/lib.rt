@@ -1,4 +1,5 @@
-// The height at one place, shown and changed in the numbers of a tower.
+// The height at one place, changed in the numbers of a tower.
+ghost use mathlib.Core.List.{List};
 ghost use mathlib.Core.Path.{_≡_};
 ghost use Prim.Native.Nat.{ℕ, _*_, _+_, _/_, _<_, _≤_};
 ghost use lib.IntN.{ℤ, pos, _+ℤ_, _-ℤ_};
@@ -7,45 +8,11 @@ ghost use Rattle.std.specs.shelf.Lists.{Has};
 ghost use Rattle.pairs.specs.Pairs.{Difference, half, Height};
 ghost use Rattle.levels.specs.Maps.{line-up, Map, size, with-height};
 ghost use Rattle.levels.specs.Numbering.{Holds, touched};
-ghost use Rattle.changes.specs.Lines.{Heights, Difference-at, Raised};
+ghost use Rattle.places.specs.Lines.{Difference-at, Heights};
+ghost use Rattle.changes.specs.Carried.{Carried, Raised};
 use maps::layout::across_at;
 use maps::layout::down_at;
-use pairs::Pair;
-
-// The height at the place x of a line, from the mean of its pair and the difference, which stands at an index. A last place alone went up as it is.
-fn line_at(tower: &[i32], places: usize, x: usize, index: usize, mean: i32) -> i32
-    requires place { ⌜ x < places ⌝ ∗ ⌜ places ≤ 128 ⌝ }
-    requires room { ⌜ (2 * (x / 2) + 1 < places → index < length (now tower)) ⌝ }
-    ensures { λ r. ⌜ ((f : ℕ → ℤ) → Heights places f → mean ≡ line-up places f (x / 2) → Difference-at places f x (now (tower .entry)) index → r ≡ f x) ⌝ }
-{
-    if 2 * (x / 2) + 1 >= places {
-        return mean;
-    }
-    let pair = Pair {
-        mean,
-        difference: tower[index],
-    };
-    if x % 2 == 0 {
-        pair.first()
-    } else {
-        pair.second()
-    }
-}
-
-// The height at a place of a map, from the numbers that begin with its tower.
-pub fn height_at(tower: &[i32], wide: usize, high: usize, x: usize, y: usize) -> i32
-    requires size { ⌜ wide ≤ 128 ⌝ ∗ ⌜ high ≤ 128 ⌝ }
-    requires place { ⌜ x < wide ⌝ ∗ ⌜ y < high ⌝ }
-    requires room { ⌜ wide * high ≤ length (now tower) ⌝ }
-    ensures { λ r. ⌜ ((k : ℕ) (p : Map) → Holds k wide high (now (tower .entry)) p → r ≡ p x y) ⌝ }
-{
-    if wide + high == 2 {
-        return tower[0];
-    }
-    let mean = height_at(tower, (wide + 1) / 2, (high + 1) / 2, x / 2, y / 2);
-    let row_mean = line_at(tower, high, y, down_at(wide, high, x / 2, y / 2), mean);
-    line_at(tower, wide, x, across_at(wide, high, x / 2, y), row_mean)
-}
+use places::height_at;
 
 // The change of the mean of a pair of which one height changes by a number. The sum of two numbers is even where their difference is.
 fn mean_change(difference: i32, by: i32) -> i32
@@ -74,24 +41,43 @@ fn carry_line(tower: &mut [i32], places: usize, x: usize, index: usize, by: i32)
     mean_change(difference, by)
 }
 
+// A change of one height: the differences of its pairs across and down follow. Answers the change one level up, and whoever
+// carries that on has carried this one.
+fn carry_level(tower: &mut [i32], wide: usize, high: usize, x: usize, y: usize, by: i32) -> i32
+    requires size { ⌜ wide ≤ 128 ⌝ ∗ ⌜ high ≤ 128 ⌝ ∗ ⌜ 2 < wide + high ⌝ }
+    requires place { ⌜ x < wide ⌝ ∗ ⌜ y < high ⌝ }
+    requires room { ⌜ wide * high ≤ length (now tower) ⌝ }
+    ensures { λ r. ⌜ ((zs : List ℤ) → Carried ((wide + 1) / 2) ((high + 1) / 2) (x / 2) (y / 2) r (now (tower .exit)) zs → Carried wide high x y by (now (tower .entry)) zs) ⌝ }
+{
+    let row_by = carry_line(tower, wide, x, across_at(wide, high, x / 2, y), by);
+    carry_line(tower, high, y, down_at(wide, high, x / 2, y / 2), row_by)
+}
+
 // A change of one height: the numbers of each level follow, the finest first, until one place is left or nothing changes.
-fn carry(tower: &mut [i32], wide: usize, high: usize, x: usize, y: usize, by: i32)
+fn carry(
+    tower: &mut [i32],
+    mut wide: usize,
+    mut high: usize,
+    mut x: usize,
+    mut y: usize,
+    mut by: i32,
+)
     requires size { ⌜ wide ≤ 128 ⌝ ∗ ⌜ high ≤ 128 ⌝ }
     requires place { ⌜ x < wide ⌝ ∗ ⌜ y < high ⌝ }
     requires room { ⌜ wide * high ≤ length (now tower) ⌝ }
-    ensures holds { λ _. ⌜ ((k : ℕ) (p : Map) → Holds k wide high (now (tower .entry)) p → Height (p x y +ℤ by) → Holds k wide high (now (tower .exit)) (with-height p x y (p x y +ℤ by))) ⌝ }
-    ensures rest { λ _. ⌜ ((k i : ℕ) → size k wide ≡ 1 → size k high ≡ 1 → (Has (touched k wide high x y) i → ⊥) → getD (now (tower .exit)) i (pos 0) ≡ getD (now (tower .entry)) i (pos 0)) ⌝ }
+    ensures { λ _. ⌜ Carried wide high x y by (now (tower .entry)) (now (tower .exit)) ⌝ }
 {
-    if by == 0 {
-        return;
+    while by != 0 {
+        if wide + high == 2 {
+            tower[0] = tower[0].wrapping_add(by);
+            return;
+        }
+        by = carry_level(tower, wide, high, x, y, by);
+        wide = (wide + 1) / 2;
+        high = (high + 1) / 2;
+        x /= 2;
+        y /= 2;
     }
-    if wide + high == 2 {
-        tower[0] = tower[0].wrapping_add(by);
-        return;
-    }
-    let row_by = carry_line(tower, wide, x, across_at(wide, high, x / 2, y), by);
-    let mean_by = carry_line(tower, high, y, down_at(wide, high, x / 2, y / 2), row_by);
-    carry(tower, (wide + 1) / 2, (high + 1) / 2, x / 2, y / 2, mean_by)
 }
 
 // Sets the height at a place of a map, in the numbers that begin with its tower.

@@ -11,10 +11,9 @@ use Rattle.std.specs.shelf.Lists.{between}
 use Rattle.std.proofs.shelf.Edits.{getD-between}
 use Rattle.std.proofs.shelf.Lists.{getD-set-same}
 use Rattle.std.proofs.shelf.Tests.{cases-eq}
+use Rattle.pairs.specs.Pairs.{Height}
 use Rattle.pairs.proofs.Exact.{bits, read-height}
 use Rattle.levels.specs.Maps.{Map}
-use Rattle.levels.specs.Numbering.{Holds}
-use Rattle.levels.proofs.Held.{top-shown}
 use Rattle.maps.specs.Rows.{line}
 use Rattle.windows.specs.Windows.{Row, Window}
 
@@ -61,10 +60,12 @@ row-more w h x y v p q start before after hw hv coarse done kept right rest u k 
     (λ n. let lt : v + 1 ≤ k = omega arith in rest (k * w + u) (λ _ l. omega (arith, mul-le-mul-right w lt)) ∙ done u k hu lt hk)
     (cases-eq k v)
 
--- the window of a map of one place
-pub top-window : (k wide high x y w h : ℕ) (ts room : List ℤ) (p : Map) → wide + high ≡ 2 → x + w ≤ wide → y + h ≤ high → 0 < w → 0 < h → w * h ≤ length room → Holds k wide high ts p → Window w h (set room 0 (bits (line ts 0))) p x y
-top-window k wide high x y w h ts room p one hx hy hw hh long o u v hu hv =
+-- a window of one place
+pub one-window : (w h x y : ℕ) (g : ℤ) (room : List ℤ) (p : Map) → w + h ≡ 2 → 0 < w → 0 < h → w * h ≤ length room → g ≡ p x y → Height (p x y) → Window w h (set room 0 (bits g)) p x y
+one-window w h x y g room p one hw hh long e hp u v hu hv =
+    let eu : u ≡ 0 = omega arith in
     let ev : v ≡ 0 = omega arith in
-    let at : v * w + u ≡ 0 = rw ev (omega arith) in
-    rw at (getD-set-same room 0 (bits (line ts 0)) (pos 0) (omega (arith, mul-le-mul hw hh))
-    ∙ read-height (line ts 0) (p (x + u) (y + v)) (top-shown k wide high ts p (x + u) (y + v) (omega arith) (omega arith) one o) (o .heights (x + u) (y + v) (omega arith) (omega arith)))
+    let ex : x + 0 ≡ x = omega arith in
+    let ey : y + 0 ≡ y = omega arith in
+    let at : 0 * w + 0 ≡ 0 = omega arith in
+    rw (eu, ev, ex, ey, at) (getD-set-same room 0 (bits g) (pos 0) (omega (arith, mul-le-mul hw hh)) ∙ read-height g (p x y) e hp)

@@ -13,6 +13,7 @@ use maps::layout::across_at;
 use maps::layout::down_at;
 use maps::rows::row_back;
 use pairs::Pair;
+use places::height_at;
 
 // Of each pair the one at a place: the first where the place is even, the second where it is odd.
 fn ones(place: usize, means: &[i32], differences: &[i32], row: &mut [i32])
@@ -135,7 +136,8 @@ fn finer(
     }
 }
 
-// The window, made at the front of the room: first the coarser window that it is a part of, then this one in its place.
+// The window, made at the front of the room: one place by itself, else first the coarser window that it is a part of, and then
+// this one in its place.
 fn window_in(
     tower: &[i32],
     wide: usize,
@@ -153,8 +155,8 @@ fn window_in(
     requires enough { ⌜ w * h ≤ length (now room) ⌝ ∗ ⌜ 64 ≤ length (now aside) ⌝ }
     ensures { λ _. ⌜ ((k : ℕ) (p : Map) → Holds k wide high (now (tower .entry)) p → Window w h (now (room .exit)) p x y) ⌝ }
 {
-    if wide + high == 2 {
-        room[0] = tower[0];
+    if w + h == 2 {
+        room[0] = height_at(tower, wide, high, x, y);
         return;
     }
     window_in(
@@ -190,7 +192,10 @@ pub fn window(
     requires room { ⌜ length (now room) ≡ w * h ⌝ }
     ensures { λ _. ⌜ ((k : ℕ) (p : Map) → Holds k wide high (now (tower .entry)) p → Window w h (now (room .exit)) p x y) ⌝ }
 {
-    if w > 0 && h > 0 {
+    // one place needs no numbers aside
+    if w == 1 && h == 1 {
+        room[0] = height_at(tower, wide, high, x, y);
+    } else if w > 0 && h > 0 {
         let mut aside = [0; 64];
         window_in(tower, wide, high, x, y, w, h, room, &mut aside);
     }

@@ -4,11 +4,11 @@ use native.Mathlib.Nat.{mul-le-mul}
 use Rattle.levels.specs.Maps.{halved}
 use Rattle.levels.specs.Numbering.{Holds}
 use Rattle.levels.proofs.Held.{above, next-level}
-use Rattle.windows.proofs.Places.{coarser-within, top-window}
+use Rattle.windows.proofs.Places.{coarser-within, one-window}
 use Rattle.windows.proofs.+window_in.Needs as need
 
-pub returns-then-wide-high-eq2 : need.returns-then-wide-high-eq2
-returns-then-wide-high-eq2 t c k p o = top-window k _ _ _ _ _ _ _ (c .args .room .now) p (c .if-wide-high-eq2 .taken) (c .pre .place .0) (c .pre .place .1 .0) (c .pre .place .1 .1 .0) (c .pre .place .1 .1 .1) (c .pre .enough .0) o
+pub returns-then-w-h-eq2 : need.returns-then-w-h-eq2
+returns-then-w-h-eq2 t c k p o = one-window _ _ _ _ _ _ p (c .if-w-h-eq2 .taken) (c .pre .place .1 .1 .0) (c .pre .place .1 .1 .1) (c .pre .enough .0) (c .height-at .ensures k p o) (o .heights _ _ (omega arith) (omega arith))
 
 pub window-in-requires : need.window-in-requires
 window-in-requires t c κs =

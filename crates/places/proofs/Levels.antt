@@ -1,13 +1,13 @@
 -- The lines of a map that lead to a place, and the differences that stand for them in a tower. Assumes nothing.
 use mathlib.Core.Path.{_≡_}
 use mathlib.Core.List.{List}
-use Prim.Native.Nat.{ℕ, suc, _+_, _<_, _/_}
+use Prim.Native.Nat.{ℕ, suc, _<_, _/_}
 use native.Mathlib.Omega.{arith}
 use lib.IntN.{ℤ}
 use Rattle.levels.specs.Maps.{Map, size, means, across, down}
 use Rattle.levels.specs.Numbering.{Holds, across-index, down-index}
 use Rattle.levels.proofs.Held.{means-height, across-there, down-there}
-use Rattle.changes.specs.Lines.{Heights, Difference-at}
+use Rattle.places.specs.Lines.{Heights, Difference-at}
 
 -- the row of a place, and the column of means that its pair is in
 module _ (k w h : ℕ) (ts : List ℤ) (p : Map) (x y : ℕ) (hx : x < w) (hy : y < h) (o : Holds (suc k) w h ts p) where
