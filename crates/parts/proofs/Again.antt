@@ -1,25 +1,21 @@
 -- Parts fit together, and windows of a part are windows of the whole. Assumes nothing.
 use mathlib.Core.Path.{_≡_, refl, sym, ap, _∙_}
-use mathlib.Core.List.{List, [], _∷_, _++_}
-use Prim.Native.Nat.{ℕ, zero, suc, _+_, _*_, _-_, _/_, _%_, _≤_, _<_}
+use mathlib.Core.List.{List, _++_}
+use Prim.Native.Nat.{ℕ, zero, suc, _+_, _*_, _-_, _/_, _%_, _<_}
 use native.Mathlib.Omega.{arith}
-use native.Mathlib.Nat.{le-refl}
 use lib.IntN.{ℤ, pos}
-use lib.ListN.{length, take, drop}
-use lib.Seq.{take-add, take-at, drop-drop}
-use Rattle.std.specs.shelf.Lists.{between}
+use lib.ListN.{length, take}
+use lib.Seq.{take-add}
 use Rattle.std.proofs.shelf.Lists.{ext-getD, take-all}
 use Rattle.std.proofs.shelf.Bits.{div-add-mod', div-below, mod-below}
-use Rattle.levels.specs.Maps.{Map, power, size, level}
-use Rattle.levels.specs.Numbering.{Holds}
+use Rattle.levels.specs.Maps.{power, level}
 use Rattle.levels.proofs.Parts.{level-level}
 use Rattle.levels.proofs.Squares.{size-power}
 use Rattle.maps.specs.Rows.{line}
 use Rattle.tower.specs.Checks.{places}
-use Rattle.tower.specs.Calls.{Shown-window}
-use Rattle.parts.specs.Parts.{coarse-of, detail-of, Coarse-part, Joined}
+use Rattle.parts.specs.Parts.{coarse-of, detail-of, Joined}
 use Rattle.parts.specs.Laws.{Together-again, Same-windows}
-use Rattle.parts.proofs.Counts.{places-less, places-four}
+use Rattle.parts.proofs.Counts.{places-four}
 use Rattle.parts.proofs.Cut.{coarse-part}
 
 -- the detail that leads to a level stands behind the coarse part of the next coarser one

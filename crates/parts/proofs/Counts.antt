@@ -1,19 +1,15 @@
 -- How many places maps of more and more levels have. Assumes nothing.
-use mathlib.Core.Path.{_≡_, ap, _∙_}
-use Prim.Native.Nat.{ℕ, zero, suc, _+_, _*_, _-_, _≤_, _<_}
+use mathlib.Core.Path.{_≡_}
+use Prim.Native.Nat.{ℕ, suc, _+_, _*_, _-_, _≤_}
 use native.Mathlib.Omega.{arith}
 use native.Mathlib.Nat.{mul-le-mul}
 use Rattle.levels.specs.Maps.{power}
-use Rattle.levels.proofs.Sizes.{power-pos, power-more}
+use Rattle.levels.proofs.Sizes.{power-more}
 use Rattle.tower.specs.Checks.{places}
 
 pub places-four : (k : ℕ) → places (suc k) ≡ 4 * places k
 unfolding places power
 places-four k = omega arith
-
-pub places-pos : (k : ℕ) → 0 < places k
-unfolding places
-places-pos k = mul-le-mul (power-pos k) (power-pos k)
 
 -- a coarser level has no more
 pub places-less : (k l : ℕ) → l ≤ k → places (k - l) ≤ places k

@@ -1,26 +1,21 @@
 -- The coarse part is the tower of the smaller map, and parts fit together. Assumes nothing.
-use mathlib.Core.Path.{_≡_, refl, sym, ap, _∙_}
-use mathlib.Core.List.{List, [], _∷_, _++_}
-use Prim.Native.Nat.{ℕ, zero, suc, _+_, _*_, _-_, _≤_, _<_}
+use mathlib.Core.Path.{_≡_, refl}
+use mathlib.Core.List.{List, [], _++_}
+use Prim.Native.Nat.{ℕ, _+_, _*_, _-_, _≤_}
 use native.Mathlib.Omega.{arith}
-use native.Mathlib.Nat.{le-refl}
 use lib.IntN.{ℤ, pos}
 use lib.ListN.{length, take, drop}
-use Rattle.std.specs.shelf.Lists.{between}
 use Rattle.std.proofs.shelf.Lists.{getD-take, take-at, drop-drop, drop-all, append-nil, length-append, length-drop}
 use Rattle.std.specs.declared.option.Option.{Option}
 use Rattle.std.specs.declared.option.Option.the-variants.{Some, None}
-use Rattle.pairs.specs.Pairs.{Height}
 use Rattle.levels.specs.Maps.{Map, power, level}
 use Rattle.levels.specs.Numbering.{Holds}
-use Rattle.levels.specs.Square as Square
 use Rattle.levels.proofs.Held.{held-by}
 use Rattle.levels.proofs.Sizes.{power-pos}
 use Rattle.levels.proofs.Squares.{whole, level-whole}
 use Rattle.levels.proofs.SquareLaws as Square-laws
 use Rattle.refusals.specs.declared.Refusal.{Refusal}
 use Rattle.tower.specs.Checks.{places}
-use Rattle.tower.specs.Calls.{Is-tower-of}
 use Rattle.tower.proofs.Squared.{from-tower, level-tower}
 use Rattle.parts.specs.Parts.{coarse-of, Coarse-part, Handed}
 

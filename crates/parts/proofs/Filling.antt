@@ -2,7 +2,7 @@
 use mathlib.Core.Path.{_≡_, refl, sym, ap, _∙_}
 use mathlib.Core.Bool.{Bool, true, false, cond}
 use mathlib.Core.List.{List, [], _∷_, _++_}
-use Prim.Native.Nat.{ℕ, zero, suc, _+_, _*_, _-_, _≤_, _<_, min}
+use Prim.Native.Nat.{ℕ, zero, suc, _+_, _-_, _≤_, _<_, min}
 use native.Mathlib.Omega.{arith}
 use borrow.Rule.Slice.PartMut.{putMid}
 use denote.Ref.{RefT, now}
@@ -18,7 +18,6 @@ use Rattle.std.specs.declared.option.Option.{Option}
 use Rattle.std.specs.declared.option.Option.the-variants.{Some, None}
 use Rattle.tower.specs.Checks.{places}
 use Rattle.parts.specs.Parts.{begins, part-size, parts-wrong, contents, joined, coarse-of, detail-of, Assembled}
-use Rattle.parts.proofs.Counts.{places-four}
 use Rattle.parts.proofs.Gaps.{no-part, begins-before}
 
 module _ (ps : List (RefT (List ℤ))) (j at : ℕ) (room : List ℤ)

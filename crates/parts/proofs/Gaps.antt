@@ -1,6 +1,6 @@
 -- The first place that is missing or too many, part by part. Assumes nothing.
-use mathlib.Core.Path.{_≡_, refl, sym, ap, _∙_}
-use mathlib.Core.List.{List, [], _∷_, _++_}
+use mathlib.Core.Path.{_≡_, refl, ap}
+use mathlib.Core.List.{List, []}
 use Prim.Native.Nat.{ℕ, zero, suc, _+_, _*_, _-_, _≤_, _<_, min}
 use native.Mathlib.Omega.{arith}
 use denote.Ref.{RefT, now}
@@ -12,7 +12,7 @@ use Rattle.std.specs.declared.option.Option.the-variants.{Some, None}
 use Rattle.levels.specs.Maps.{power}
 use Rattle.tower.specs.Checks.{places}
 use Rattle.parts.specs.Parts.{begins, part-size, parts-wrong, contents}
-use Rattle.parts.proofs.Counts.{places-less, places-four, places-pos}
+use Rattle.parts.proofs.Counts.{places-less, places-four}
 
 -- what is read where there is no part
 abbrev pub no-part : RefT (List ℤ)

@@ -1,6 +1,6 @@
 -- What is known once the checks are passed. Assumes nothing: these are definitions.
 use mathlib.Core.Path.{_≡_}
-use Prim.Native.Nat.{ℕ, suc, _+_, _*_, _-_, _≤_, _<_}
+use Prim.Native.Nat.{ℕ, suc, _*_, _-_, _≤_, _<_}
 use Rattle.maps.specs.Limits.{max-k}
 use Rattle.tower.specs.Checks.{places}
 

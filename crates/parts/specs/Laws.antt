@@ -6,7 +6,6 @@ use lib.IntN.{ℤ}
 use lib.ListN.{length}
 use Rattle.levels.specs.Maps.{Map, power}
 use Rattle.levels.specs.Numbering.{Holds}
-use Rattle.levels.specs.Square as Square
 use Rattle.tower.specs.Checks.{places}
 use Rattle.tower.specs.Calls.{Shown-window}
 use Rattle.parts.specs.Parts.{coarse-of, detail-of}

@@ -11,7 +11,7 @@
 use mathlib.Core.Path.{_≡_}
 use mathlib.Core.Bool.{cond, not}
 use mathlib.Core.List.{List, [], _∷_, _++_}
-use Prim.Native.Nat.{ℕ, zero, suc, _+_, _-_, _≤_, _<_, min}
+use Prim.Native.Nat.{ℕ, zero, suc, _+_, _-_, _<_, min}
 use lib.Dec.{ltb, leb, eqb}
 use lib.IntN.{ℤ}
 use lib.ListN.{length, take, getD}
@@ -66,7 +66,7 @@ join-refusal k c d n =
     (refused-if (not (eqb d (places k - places (k - 1)))) (WrongNumber (places (k - 1) + min d (places k - places (k - 1))))
     (refused-if (not (eqb n (places k))) (WrongRoom n) None))))
 
--- the one part after the other; so from two parts of a tower of K levels, with as many levels more as the smaller tower is levels behind, its coarse part for that level
+-- the one part after the other. So where they are parts of a tower of l levels more, it is the coarse part of that tower for level l
 pub record Joined (k : ℕ) (coarse detail after : List ℤ) : Type 0 where
   pub numbers : after ≡ coarse ++ detail
   pub grows : (l : ℕ) (ts : List ℤ) → length ts ≡ places (k + l) → coarse ≡ coarse-of (k + l) ts (suc l) → detail ≡ detail-of (k + l) ts l → Coarse-part (k + l) ts l after

@@ -9,7 +9,7 @@ ghost use Rattle.maps.specs.Limits.{max-k};
 ghost use Rattle.tower.specs.Calls.{Answered};
 ghost use Rattle.parts.specs.Known.{Can-detail, Can-hand, Can-join, Places-of};
 ghost use Rattle.parts.specs.Laws.{Same-windows, Together-again};
-ghost use Rattle.parts.specs.Parts.{coarse-of, Coarse-part, coarse-refusal, detail-of, detail-refusal, Handed, join-refusal, Joined};
+ghost use Rattle.parts.specs.Parts.{Coarse-part, coarse-refusal, detail-of, detail-refusal, Handed, join-refusal, Joined};
 
 pub mod assembly;
 

@@ -1,6 +1,5 @@
-use mathlib.Core.Path.{_≡_, refl, _∙_}
+use mathlib.Core.Path.{refl}
 use Prim.Native.Nat.{_-_}
-use native.Mathlib.Omega.{arith}
 use Rattle.parts.specs.Parts.{detail-of}
 use Rattle.parts.proofs.Cut.{handed, none-handed}
 use Rattle.parts.proofs.detail.Needs as need

@@ -1,9 +1,9 @@
-use mathlib.Core.Path.{_≡_, ap, _∙_}
+use mathlib.Core.Path.{ap, _∙_}
 use mathlib.Core.List.{_++_}
 use Prim.Native.Nat.{_*_, _-_}
 use native.Mathlib.Omega.{arith}
 use lib.ListN.{length}
-use Rattle.tower.proofs.Taken.{answer-taken, answer-refused}
+use Rattle.tower.proofs.Taken.{answer-taken}
 use Rattle.parts.proofs.Again.{joined-parts}
 use Rattle.parts.proofs.Cut.{filled}
 use Rattle.parts.proofs.join.Needs as need

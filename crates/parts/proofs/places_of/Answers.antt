@@ -1,5 +1,4 @@
-use mathlib.Core.Path.{_≡_, refl}
-use native.Mathlib.Omega.{arith}
+use mathlib.Core.Path.{refl}
 use native.Mathlib.Nat.{mul-le-mul}
 use Rattle.tower.specs.Checks.{places}
 use Rattle.parts.proofs.places_of.Needs as need

@@ -1,10 +1,9 @@
 use mathlib.Core.Path.{_≡_, refl, sym, ap, _∙_}
-use Prim.Native.Nat.{suc, _+_, _*_, _-_, _≤_, _<_, min}
+use Prim.Native.Nat.{suc, _+_, _*_, _-_, min}
 use native.Mathlib.Omega.{arith}
 use lib.ListN.{length, getD}
 use denote.Ref.{now}
-use Rattle.std.specs.declared.option.Option.the-variants.{Some, None}
-use Rattle.tower.specs.Checks.{places}
+use Rattle.std.specs.declared.option.Option.the-variants.{Some}
 use Rattle.parts.specs.Parts.{begins, part-size}
 use Rattle.parts.proofs.Gaps.{no-part, places-small, places-one, places-next, begins-next, begins-before, gap-many, gap-here, gap-step, gap-missing, gap-none}
 use Rattle.parts.proofs.assembly.find_gap.Needs as need
