@@ -1,4 +1,6 @@
 // The tower of a map, level by level: a step across and a step down that call each other.
+#![tactic(auto)]
+
 ghost use Rattle.std.specs.Prelude.{◌≡◌, ℕ, ◌+◌, ◌*◌, ◌/◌, ◌%◌, ◌<◌, ◌≤◌, length};
 ghost use Rattle.pairs.specs.Pairs.{Height};
 ghost use Rattle.levels.specs.Maps.{apart, line_up, Map, size};

@@ -1,4 +1,6 @@
 // The height at one place, changed in the numbers of a tower.
+#![tactic(auto)]
+
 ghost use Rattle.std.specs.Prelude.{◌≡◌, ℕ, ◌+◌, ◌*◌, ◌/◌, ◌<◌, ◌≤◌, List, length, ℤ, pos, ◌+ℤ◌, ◌-ℤ◌, ◌≢◌, slice_index_or};
 ghost use Rattle.std.specs.List.{ContainsAt as Has};
 ghost use Rattle.pairs.specs.Pairs.{Difference, half, Height};

@@ -1,4 +1,6 @@
 // A map whose rows are being given.
+#![tactic(auto)]
+
 ghost use Rattle.std.specs.Prelude.{◌≡◌, ℕ, ◌++◌, IfOk, Some, None, OnOk};
 ghost use Rattle.std.specs.Option as Options;
 ghost use Rattle.std.specs.Result as Results;

@@ -1,4 +1,6 @@
 // The laws of halved maps and their towers: each is the contract of a function, so that the crate is proved only with it.
+#![tactic(auto)]
+
 ghost use Rattle.levels.specs.Examples.{SmallExample};
 ghost use Rattle.levels.specs.Laws.{AsMany, Between, ChangesFew, EitherOrder, KeepsOrder, KeepsSlopes, LevelsEnough, ListedTower, NearMean, NumbersAll, PartIsTower, ShowsAll, ShowsHeld, TouchesFew, TowersEitherOrder, TowersUndone, Undone, WindowOnly};
 

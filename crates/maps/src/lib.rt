@@ -1,4 +1,6 @@
 // Maps that are lent, their limits, and what is done with their rows and quads.
+#![tactic(auto)]
+
 ghost use Rattle.std.specs.Prelude.{◌≡◌, ◌<◌, ◌≤◌, T, pos, MatchOption};
 ghost use Rattle.pairs.specs.Pairs.{Height, max_height};
 ghost use Rattle.levels.specs.Maps.{power};

@@ -1,4 +1,6 @@
 // Two heights become their mean and their difference, and come back.
+#![tactic(auto)]
+
 ghost use Rattle.std.specs.Prelude.{◌≡◌, pos, ◌+ℤ◌, ◌-ℤ◌};
 ghost use Rattle.std.specs.Int.{int_wrap, w32};
 ghost use Rattle.pairs.specs.Pairs.{BothBack, Difference, difference_of, first_of, half, Height, mean_of, second_of};

@@ -1,4 +1,6 @@
 // The height at one place of a map, from the numbers of its tower.
+#![tactic(auto)]
+
 ghost use Rattle.std.specs.Prelude.{◌≡◌, ℕ, suc, ◌+◌, ◌*◌, ◌/◌, ◌<◌, ◌≤◌, length, ℤ, ◌+ℤ◌};
 ghost use Rattle.levels.specs.Maps.{halved, line_up, Map};
 ghost use Rattle.levels.specs.Numbering.{Holds};

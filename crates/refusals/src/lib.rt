@@ -1,4 +1,6 @@
 // Why a call or a line of text is refused.
+#![tactic(auto)]
+
 ghost use Rattle.std.specs.Prelude.{◌≡◌};
 ghost use Rattle.refusals.specs.Refusals.{number as number_of, place as place_of};
 

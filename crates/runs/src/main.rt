@@ -1,4 +1,6 @@
 // Random runs of commands, bad lines among them: what a session answers beside what is worked out from the map itself.
+#![tactic(auto)]
+
 mod chance;
 mod expected;
 mod given;

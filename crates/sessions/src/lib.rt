@@ -1,4 +1,6 @@
 // A session: lines of text taken one after the other, each answered.
+#![tactic(auto)]
+
 use drafts::Draft;
 use viewer::Viewer;
 

@@ -1,4 +1,6 @@
 // Reads lines from standard input as they come, and prints what each answers.
+#![tactic(auto)]
+
 use sessions::Session;
 use std::io::{BufRead, BufReader};
 

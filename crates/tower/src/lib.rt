@@ -1,4 +1,6 @@
 // The calls on towers of 2^k by 2^k places, over bare numbers: each answers what is done, or the number of a refusal.
+#![tactic(auto)]
+
 ghost use Rattle.std.specs.Prelude.{length};
 ghost use Rattle.tower.specs.declared.Done.TheVariants.{Built, Changed, Shown};
 ghost use Rattle.tower.specs.Calls.{BuiltTower, ChangedTower, Entered, ShownWindow};

@@ -1,4 +1,6 @@
 // Random maps, windows and changes beside copies that are halved from the start. Prints how many cases agree.
+#![tactic(auto)]
+
 use parts::assembly::assemble;
 use parts::{coarse, detail, join};
 use std::alloc::{AllocError, Global};

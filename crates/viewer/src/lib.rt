@@ -1,4 +1,6 @@
 // The map that a run of commands looks at: its tower, and the level of its windows.
+#![tactic(auto)]
+
 ghost use Rattle.std.specs.Prelude.{◌≡◌, ◌≤◌, vec_len};
 ghost use Rattle.maps.specs.Limits.{max_k};
 ghost use Rattle.tower.specs.Checks.{places};

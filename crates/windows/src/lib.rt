@@ -1,4 +1,6 @@
 // Windows of a map, from the numbers of its tower, each made in its own room.
+#![tactic(auto)]
+
 ghost use Rattle.std.specs.Prelude.{◌≡◌, ℕ, suc, ◌+◌, ◌-◌, ◌*◌, ◌/◌, ◌%◌, ◌<◌, ◌≤◌, length, pos, slice_index_or};
 ghost use Rattle.std.specs.List.{between};
 ghost use Rattle.levels.specs.Maps.{halved, Map, means as means-of};

@@ -1,4 +1,6 @@
 // Worked examples, run.
+#![tactic(auto)]
+
 use maps::quad::Quad;
 use maps::rows::{halve_row, row_back};
 use pairs::Pair;
