@@ -2,8 +2,8 @@ use Rattle.std.proofs.Common.{◌≡◌, ◌*◌, ◌%◌, ◌^◌, ◌<◌, ◌
 use Rattle.levels.proofs.Sizes.{power_is}
 use Rattle.maps.proofs.HeightMap.side.Goals as goal
 
-pub returns-then-k-le-MAX-K : goal.returns-then-k-le-MAX-K
-returns-then-k-le-MAX-K c =
+pub returns-then-k-le-MAX_K : goal.returns-then-k-le-MAX_K
+returns-then-k-le-MAX_K c =
     let k = c.args.k in
     let h : k ≤ 7 = omega arith in
     let small : 2 ^ k ≤ 2 ^ 7 = pow_mono h in

@@ -8,8 +8,8 @@ pub returns-then-from-w : goal.returns-then-from-w
 returns-then-from-w c i j hi ej =
     let ms = c.args.means.now in
     let w = length c.args.row.now in
-    last_back c.args.places c.args.from (w - 1) ms c.args.differences.now _ c.args.row.now c.pairs-back.new.row _ (omega arith) (omega arith) (omega arith) (omega arith) (omega arith)
-    (λ b eb. rw eb (read_height _ _ refl)) (λ b d hb ed. c.pairs-back.ensures b d (omega arith) ed) i j (omega arith) ej
+    last_back c.args.places c.args.from (w - 1) ms c.args.differences.now _ c.args.row.now c.pairs_back.new.row _ (omega arith) (omega arith) (omega arith) (omega arith) (omega arith)
+    (λ b eb. rw eb (read_height _ _ refl)) (λ b d hb ed. c.pairs_back.ensures b d (omega arith) ed) i j (omega arith) ej
 
 pub returns-else-w-gt0 : goal.returns-else-w-gt0
 returns-else-w-gt0 c =
@@ -18,4 +18,4 @@ returns-else-w-gt0 c =
     let w = length c.args.row.now in
     let whole : 0 < length c.args.row.now → c.args.from + length c.args.row.now ≤ 2 * (c.args.places / 2) =
     λ some. elim c.else-w-gt0.branch [ else-w-gt0-via-then-w-gt0+else-from-w t ↦ omega arith | else-w-gt0-via-else-w-gt0 t ↦ omega arith ] in
-    whole_back n x w _ _ _ whole c.pairs-back-else-w-gt0.ensures
+    whole_back n x w _ _ _ whole c.pairs_back-else-w-gt0.ensures
