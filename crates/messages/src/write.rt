@@ -13,7 +13,8 @@ fn write_rest(out: &mut String, numbers: &[i32]) -> fmt::Result
     for number in numbers {
         write!(out, " {number}")?;
     }
-    write!(out, "\n")
+    write!(out, "\n")?;
+    Ok(())
 }
 
 // Numbers in one line, parted by one blank.
@@ -21,7 +22,8 @@ pub fn write_row(out: &mut String, numbers: &[i32]) -> fmt::Result
     ensures { OnOk result (string_bytes out.new ≡ string_bytes out.old ++ row_text numbers.now) }
 {
     if numbers.len() == 0 {
-        return write!(out, "\n");
+        write!(out, "\n")?;
+        return Ok(());
     }
     let first = &numbers[0];
     write!(out, "{first}")?;
@@ -46,5 +48,6 @@ pub fn write_refusal(out: &mut String, refusal: Refusal) -> fmt::Result
 {
     let number = refusal.number();
     let place = refusal.place();
-    write!(out, "refused {number} {place}\n")
+    write!(out, "refused {number} {place}\n")?;
+    Ok(())
 }

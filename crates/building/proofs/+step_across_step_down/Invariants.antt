@@ -1,8 +1,8 @@
 use Rattle.std.proofs.Common.{◌+◌, ◌-◌, ◌*◌}
 use Rattle.building.proofs.+step_across_step_down.Given as goal
 
-abbrev pub decreases-step-across : goal.decreases-step-across
-decreases-step-across l = 2 * (l.wide + l.high)
+abbrev pub decreases-step_across : goal.decreases-step_across
+decreases-step_across l = 2 * (l.wide + l.high)
 
-abbrev pub decreases-step-down : goal.decreases-step-down
-decreases-step-down l = 2 * (l.wide + l.high) - 1
+abbrev pub decreases-step_down : goal.decreases-step_down
+decreases-step_down l = 2 * (l.wide + l.high) - 1

@@ -19,18 +19,18 @@ returns-then-wide-high-eq2 c =
       holds = λ k ew eh. one_built k w h src _ (map_in w src) (omega arith) (omega arith) (omega arith) (λ x y hx hy. refl) c.requires.range (get_or-set_same c.args.room.now 0 _ (pos 0) (omega arith) ∙ e);
     }
 
-pub step-down-requires : goal.step-down-requires
-step-down-requires c =
+pub step_down-requires : goal.step_down-requires
+step_down-requires c =
     let w = c.args.wide in
     let h = c.args.high in
     let e = widths w h in
     let hw : (w + 1) / 2 ≤ 64 = omega arith in
     let hh : (h + 1) / 2 ≤ 64 = omega arith in
     let m : (w + 1) / 2 * ((h + 1) / 2) ≤ 4096 = mul-le-mul hw hh in
-    record { size = (omega arith, (omega arith, (omega arith, (omega arith, omega arith)))); lengths = (omega arith, m); heights = means_heights _ _ _ _ _ c.halve-rows.ensures c.requires.range (omega arith) }
+    record { size = (omega arith, (omega arith, (omega arith, (omega arith, omega arith)))); lengths = (omega arith, m); heights = means_heights _ _ _ _ _ c.halve_rows.ensures c.requires.range (omega arith) }
 
 pub returns : goal.returns
 returns c = record {
-  rest = rest_across _ _ _ _ _ c.halve-rows.ensures _ c.step-down.ensures.rest;
-  holds = λ k ew eh. rows_built _ _ _ _ _ c.halve-rows.ensures (map_in c.args.wide c.args.heights.now) (λ x y hx hy. refl) _ c.requires.range c.step-down.ensures.rest c.step-down.ensures.holds c.step-down.ensures.downs k ew eh (omega arith);
+  rest = rest_across _ _ _ _ _ c.halve_rows.ensures _ c.step_down.ensures.rest;
+  holds = λ k ew eh. rows_built _ _ _ _ _ c.halve_rows.ensures (map_in c.args.wide c.args.heights.now) (λ x y hx hy. refl) _ c.requires.range c.step_down.ensures.rest c.step_down.ensures.holds c.step_down.ensures.downs k ew eh (omega arith);
 }

@@ -8,8 +8,8 @@ pub loop-by-preserved : goal.loop-by-preserved
 loop-by-preserved c =
     let ew : (c.loop-by.wide + 1) / 2 ≤ c.loop-by.wide = omega arith in
     let eh : (c.loop-by.high + 1) / 2 ≤ c.loop-by.high = omega arith in
-    let fr : SFits w32 c.carry-level-by.result = search rules in
-    (λ zs on. c.loop-by.invariant.0 zs (c.carry-level-by.ensures zs (carried_by (to_z-of_z w32 _ fr) on)), omega arith, omega arith, omega arith, omega arith, omega (arith, mul-le-mul ew eh))
+    let fr : SFits w32 c.carry_level-by.result = search rules in
+    (λ zs on. c.loop-by.invariant.0 zs (c.carry_level-by.ensures zs (carried_by (to_z-of_z w32 _ fr) on)), omega arith, omega arith, omega arith, omega arith, omega (arith, mul-le-mul ew eh))
 
 pub returns-then-wide-high-eq2 : goal.returns-then-wide-high-eq2
 returns-then-wide-high-eq2 c =

@@ -15,10 +15,10 @@ pub returns : goal.returns
 returns c =
     let fb : SFits w32 c.args.by = c.ranges.by in
     let fd : SFits w32 (get_or c.args.tower.now c.args.index (pos 0)) = search rules in
-    let fr : SFits w32 c.mean-change.result = search rules in
+    let fr : SFits w32 c.mean_change.result = search rules in
     let whole = c.if-x-places.false in
     let hx = c.requires.place.0 in
-    let rise = simp to_z-of_z at c.mean-change.ensures in
+    let rise = simp to_z-of_z at c.mean_change.ensures in
     record {
       exact = λ f g o hf hg d. (
         rw (to_z-of_z w32 _ fr) (pair_raised _ f g _ _ o whole _ (λ a b e. rise (by_difference _ f g _ _ o hx hf hg) a b (d whole ∙ e))),

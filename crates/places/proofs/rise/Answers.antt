@@ -16,9 +16,9 @@ returns c k p o =
     let ts = c.args.tower.now in
     let hx = c.requires.place.0 in
     let hy = c.requires.place.1 in
-    let fa : SFits w32 c.line-rise-across.result = search rules in
-    let fd : SFits w32 c.line-rise-down.result = search rules in
+    let fa : SFits w32 c.line_rise-across.result = search rules in
+    let fd : SFits w32 c.line_rise-down.result = search rules in
     level_rises (p x y) (means w p (x / 2) y) (halved w h p (x / 2) (y / 2)) _ _ (o.heights x y hx hy) (halved_height w h p o.heights (x / 2) (y / 2) (omega arith) (omega arith))
-    (c.line-rise-across.ensures (λ u. p u y) (row_heights k w h ts p x y hx hy o) (row_difference k w h ts p x y hx hy o _ c.across-at.ensures.value))
-    (c.line-rise-down.ensures (means w p (x / 2)) (column_heights k w h ts p x y hx hy o) (column_difference k w h ts p x y hx hy o _ c.down-at.ensures.value))
+    (c.line_rise-across.ensures (λ u. p u y) (row_heights k w h ts p x y hx hy o) (row_difference k w h ts p x y hx hy o _ c.across_at.ensures.value))
+    (c.line_rise-down.ensures (means w p (x / 2)) (column_heights k w h ts p x y hx hy o) (column_difference k w h ts p x y hx hy o _ c.down_at.ensures.value))
     ∙ ap (λ z. halved w h p (x / 2) (y / 2) +ℤ z) (sym (wrapping_add_is w32 _ _ fa fd))

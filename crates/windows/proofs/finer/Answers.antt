@@ -3,8 +3,8 @@ use Rattle.levels.specs.Maps.{halved}
 use Rattle.windows.proofs.Places.{row_within, from_within, row_more}
 use Rattle.windows.proofs.finer.Goals as goal
 
-pub finer-row-requires : goal.finer-row-requires
-finer-row-requires c =
+pub finer_row-requires : goal.finer_row-requires
+finer_row-requires c =
     let w = c.args.w in
     let h = c.args.h in
     let v = h - 1 - c.loop-i.i in
@@ -22,8 +22,8 @@ loop-i-preserved c =
     let done = rw es at c.loop-i.invariant.0 in
     let kept = rw es at c.loop-i.invariant.1 in
     rw en (
-      λ k p o coarse. row_more w h _ _ v p (halved c.args.wide c.args.high p) _ _ _ (omega arith) (omega arith) coarse (done k p o coarse) kept (c.finer-row.ensures.right k p o) c.finer-row.ensures.rest,
-      λ j hj. c.finer-row.ensures.rest j (λ l _. omega arith) ∙ kept j (omega arith),
+      λ k p o coarse. row_more w h _ _ v p (halved c.args.wide c.args.high p) _ _ _ (omega arith) (omega arith) coarse (done k p o coarse) kept (c.finer_row.ensures.right k p o) c.finer_row.ensures.rest,
+      λ j hj. c.finer_row.ensures.rest j (λ l _. omega arith) ∙ kept j (omega arith),
     )
 
 pub returns : goal.returns

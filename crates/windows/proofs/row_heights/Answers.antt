@@ -2,17 +2,17 @@ use Rattle.std.proofs.Common.{◌-◌, ◌/◌, refl, arith, rules}
 use Rattle.windows.proofs.Shown.{across_part, heights_shown}
 use Rattle.windows.proofs.row_heights.Goals as goal
 
-pub offset-bounds-tower-at : goal.offset-bounds-tower-at
-offset-bounds-tower-at c =
+pub offset_bounds-tower-at : goal.offset_bounds-tower-at
+offset_bounds-tower-at c =
     let b = across_part c.args.wide c.args.high (c.args.x / 2) c.args.y (c.args.wide / 2 - c.args.x / 2) (omega arith) (omega arith) in
-    let e = c.across-at-at.ensures.value in
+    let e = c.across_at-at.ensures.value in
     search rules
 
-pub slice-bounds-row-back-end : goal.slice-bounds-row-back-end
-slice-bounds-row-back-end c =
+pub slice_bounds-row_back-end : goal.slice_bounds-row_back-end
+slice_bounds-row_back-end c =
     let b = across_part c.args.wide c.args.high (c.args.x / 2) c.args.y (c.args.wide / 2 - c.args.x / 2) (omega arith) (omega arith) in
-    let e = c.across-at-at.ensures.value in
+    let e = c.across_at-at.ensures.value in
     search rules
 
 pub returns : goal.returns
-returns c k p o = heights_shown k _ _ _ p o _ _ _ _ _ _ _ c.requires.place.0 c.requires.place.1 c.across-at-at.ensures.value refl c.requires.means c.row-back.ensures
+returns c k p o = heights_shown k _ _ _ p o _ _ _ _ _ _ _ c.requires.place.0 c.requires.place.1 c.across_at-at.ensures.value refl c.requires.means c.row_back.ensures

@@ -4,18 +4,18 @@ use Rattle.tower.specs.Checks.{places}
 use Rattle.drafts.proofs.Standing.{few, finish_refused, finish_taken}
 use Rattle.drafts.proofs.Draft.finish.Goals as goal
 
-pub overflow-mul-side : goal.overflow-mul-side
-overflow-mul-side c = let most = few _ _ c.in-Ok.ensures.side in search rules
+pub overflow_mul-side : goal.overflow_mul-side
+overflow_mul-side c = let most = few _ _ c.in-Ok.ensures.side in search rules
 
 pub new-requires : goal.new-requires
 unfolding places
 new-requires c =
     let side = c.in-Ok.ensures.side in
-    record { levels = side.levels; whole = c.in-ok-tower.ensures.len ∙ ap (λ (s : ℕ). s * s) side.value }
+    record { levels = side.levels; whole = c.in_ok-tower.ensures.len ∙ ap (λ (s : ℕ). s * s) side.value }
 
 pub returns-in-Ok-build : goal.returns-in-Ok-build
 returns-in-Ok-build c = λ g o.
-    finish_taken o (c.in-Ok.ensures.tells g o) _ _ _ c.deref.ensures.value _ (c.deref-mut.ensures.len ∙ c.in-ok-tower.ensures.len) _ c.new.ensures.0 c.new.ensures.1.0 (ap vec_items c.new.ensures.1.1 ∙ with_items_is c.in-ok-tower.tower _ (c.build.auto.room ∙ c.deref-mut.ensures.len)) c.in-Ok-build.ensures
+    finish_taken o (c.in-Ok.ensures.tells g o) _ _ _ c.deref.ensures.value _ (c.deref-mut.ensures.len ∙ c.in_ok-tower.ensures.len) _ c.new.ensures.0 c.new.ensures.1.0 (ap vec_items c.new.ensures.1.1 ∙ with_items_is c.in_ok-tower.tower _ (c.build.auto.room ∙ c.deref-mut.ensures.len)) c.in-Ok-build.ensures
 
 pub returns : goal.returns
-returns c = λ g o. finish_refused o (c.in-Ok.ensures.tells g o) _ _ _ c.deref.ensures.value _ (c.deref-mut.ensures.len ∙ c.in-ok-tower.ensures.len) _ c.in-Err-build.ensures
+returns c = λ g o. finish_refused o (c.in-Ok.ensures.tells g o) _ _ _ c.deref.ensures.value _ (c.deref-mut.ensures.len ∙ c.in_ok-tower.ensures.len) _ c.in-Err-build.ensures

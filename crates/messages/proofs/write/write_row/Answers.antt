@@ -5,4 +5,4 @@ pub returns-then-numbers-eq0 : goal.returns-then-numbers-eq0
 returns-then-numbers-eq0 c = row_empty _ _ _ _ c.if-numbers-eq0.true c.write.ensures.bytes
 
 pub returns : goal.returns
-returns c = row_first _ _ _ _ _ c.if-numbers-eq0.false c.in-ok-write.ensures.bytes c.write-rest.ensures
+returns c = row_first _ _ _ _ _ c.if-numbers-eq0.false c.in_ok-write.ensures.bytes c.write_rest.ensures

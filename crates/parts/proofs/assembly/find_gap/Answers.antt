@@ -13,15 +13,15 @@ returns-then-j-k c =
     let last : c.loop-j.j ≡ suc c.args.k = omega (arith, o.0) in
     ap Some o.1 ∙ sym (o.3 ∙ gap_many c.args.k c.loop-j.j c.args.parts.now no_part c.loop-j-test.true last)
 
-pub overflow-sub-size : goal.overflow-sub-size
-overflow-sub-size c =
+pub overflow_sub-size : goal.overflow_sub-size
+overflow_sub-size c =
     let e = c.loop-j.invariant.1 in
     let q = c.loop-j.invariant.2 in
     let h = begins_before c.loop-j.j in
     omega arith
 
-pub overflow-add-result : goal.overflow-add-result
-overflow-add-result c =
+pub overflow_add-result : goal.overflow_add-result
+overflow_add-result c =
     let e = c.loop-j.invariant.1 in
     let q = c.loop-j.invariant.2 in
     let h = begins_before c.loop-j.j in
@@ -39,8 +39,8 @@ returns-then-parts-j c =
     (λ i. o.1 i + (rw size at c.min.ensures) i) in
     ap Some sum ∙ sym (o.3 ∙ here)
 
-pub overflow-mul-end : goal.overflow-mul-end
-overflow-mul-end c =
+pub overflow_mul-end : goal.overflow_mul-end
+overflow_mul-end c =
     let q = c.loop-j.invariant.2 in
     let h = places_small c.loop-j.j (omega arith) in
     omega arith

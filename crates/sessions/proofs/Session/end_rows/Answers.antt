@@ -4,8 +4,8 @@ use Rattle.sessions.proofs.Session.end_rows.Goals as goal
 
 pub returns-in-Ok : goal.returns-in-Ok
 returns-in-Ok c =
-    λ s o. end_taken o c.in-Some.draft c.in-Ok.viewer _ _ (sym c.in-Some.ensures.value) (rw c.in-Ok.is at c.in-ok-viewer.ensures) refl c.take.ensures.after refl
+    λ s o. end_taken o c.in-Some.draft c.in-Ok.viewer _ _ (sym c.in-Some.ensures.value) (rw c.in-Ok.is at c.in_ok-viewer.ensures) refl c.take.ensures.after refl
 
-pub returns-in-ok-write-refusal : goal.returns-in-ok-write-refusal
-returns-in-ok-write-refusal c =
-    λ s o. end_refused o c.in-Some.draft c.in-Err.refusal _ _ _ (sym c.in-Some.ensures.value) (rw c.in-Err.is at c.in-ok-viewer.ensures) refl c.take.ensures.after refl c.in-ok-write-refusal.ensures
+pub returns-in_ok-write_refusal : goal.returns-in_ok-write_refusal
+returns-in_ok-write_refusal c =
+    λ s o. end_refused o c.in-Some.draft c.in-Err.refusal _ _ _ (sym c.in-Some.ensures.value) (rw c.in-Err.is at c.in_ok-viewer.ensures) refl c.take.ensures.after refl c.in_ok-write_refusal.ensures

@@ -5,7 +5,7 @@ pub loop-line-init : goal.loop-line-init
 loop-line-init c = none_yet _ _ _
 
 pub loop-line-preserved : goal.loop-line-preserved
-loop-line-preserved c = line_more c.loop-line.invariant c.in-Some.ensures.0 (λ s o. c.in-ok-take-line.ensures s o)
+loop-line-preserved c = line_more c.loop-line.invariant c.in-Some.ensures.0 (λ s o. c.in_ok-take_line.ensures s o)
 
 pub returns : goal.returns
-returns c = no_more c.loop-line.invariant c.in-default.ensures
+returns c = no_more c.loop-line.invariant c.in_default.ensures

@@ -10,14 +10,14 @@ returns-in-Some-48-to-57-rest c = let h = c.in-Some-48-to-57-rest.ensures in rw 
 pub returns-in-Some-48-to-57-rest·2 : goal.returns-in-Some-48-to-57-rest·2
 returns-in-Some-48-to-57-rest·2 c = let h = c.in-Some-48-to-57-rest.ensures in rw (row_begins _ _ _ h.0) (grind (arith, nat_tests))
 
-pub returns-in-default : goal.returns-in-default
-returns-in-default c = let h = c.in-default.ensures in rw (row_begins _ _ _ h.0) (grind (arith, nat_tests, get_or_past))
+pub returns-in_default : goal.returns-in_default
+returns-in_default c = let h = c.in_default.ensures in rw (row_begins _ _ _ h.0) (grind (arith, nat_tests, get_or_past))
 
-pub returns-in-default·2 : goal.returns-in-default·2
-returns-in-default·2 c = let h = c.in-default.ensures in rw (row_begins _ _ _ h.0) (grind (arith, nat_tests))
+pub returns-in_default·2 : goal.returns-in_default·2
+returns-in_default·2 c = let h = c.in_default.ensures in rw (row_begins _ _ _ h.0) (grind (arith, nat_tests))
 
-pub returns-in-default·3 : goal.returns-in-default·3
-returns-in-default·3 c = let h = c.in-default.ensures in rw (row_begins _ _ _ h.0) (grind (arith, nat_tests))
+pub returns-in_default·3 : goal.returns-in_default·3
+returns-in_default·3 c = let h = c.in_default.ensures in rw (row_begins _ _ _ h.0) (grind (arith, nat_tests))
 
-pub returns-in-default·4 : goal.returns-in-default·4
-returns-in-default·4 c = let h = c.in-default.ensures in sym (row_none _ h)
+pub returns-in_default·4 : goal.returns-in_default·4
+returns-in_default·4 c = let h = c.in_default.ensures in sym (row_none _ h)

@@ -8,17 +8,17 @@ use Rattle.texts.proofs.read.read_row.Goals as goal
 pub loop-word-init : goal.loop-word-init
 loop-word-init c = rw c.new-numbers.ensures.items (so_far_none height_number _)
 
-pub returns-in-default-read-height : goal.returns-in-default-read-height
+pub returns-in_default-read_height : goal.returns-in_default-read_height
 unfolding row
-returns-in-default-read-height c =
-    sym (so_far_wrong height_number _ _ _ _ _ c.loop-word.invariant c.in-Some.ensures.0 c.in-default-read-height.ensures)
+returns-in_default-read_height c =
+    sym (so_far_wrong height_number _ _ _ _ _ c.loop-word.invariant c.in-Some.ensures.0 c.in_default-read_height.ensures)
 
 pub loop-word-preserved : goal.loop-word-preserved
 loop-word-preserved c =
-    let fits : SFits w64 c.in-Some-read-height.number = search rules in
-    rw (c.in-ok-push.ensures.items, to_z-of_z w64 c.in-Some-read-height.number)
-    (so_far_more height_number _ _ _ _ _ c.loop-word.invariant c.in-Some.ensures.0 _ c.in-Some-read-height.ensures)
+    let fits : SFits w64 c.in-Some-read_height.number = search rules in
+    rw (c.in_ok-push.ensures.items, to_z-of_z w64 c.in-Some-read_height.number)
+    (so_far_more height_number _ _ _ _ _ c.loop-word.invariant c.in-Some.ensures.0 _ c.in-Some-read_height.ensures)
 
 pub returns : goal.returns
 unfolding row
-returns c = sym (so_far_all height_number _ _ _ c.loop-word.invariant c.in-default.ensures)
+returns c = sym (so_far_all height_number _ _ _ c.loop-word.invariant c.in_default.ensures)

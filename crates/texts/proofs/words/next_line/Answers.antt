@@ -5,14 +5,14 @@ use Rattle.texts.proofs.Pieces.{lines_none, first_line}
 use Rattle.texts.proofs.words.next_line.Goals as goal
 use Rattle.texts.proofs.words.next_line.Goals.{then-loop-end-test+else-text-end-ne10, else-loop-end-test, then-end-text, else-end-text}
 
-pub returns-then-is-empty : goal.returns-then-is-empty
-returns-then-is-empty c = ap lines (nil_from_length _ (true-eqb _ 0 c.if-is-empty.ensures)) ∙ lines_none
+pub returns-then-is_empty : goal.returns-then-is_empty
+returns-then-is_empty c = ap lines (nil_from_length _ (true-eqb _ 0 c.if-is_empty.ensures)) ∙ lines_none
 
 pub returns : goal.returns
 returns c =
     first_line _ _ _
     (record {
-      some = omega (arith, false-eqb _ 0 c.if-is-empty.ensures);
+      some = omega (arith, false-eqb _ 0 c.if-is_empty.ensures);
       within = c.loop-end.invariant.0;
       all = c.loop-end.invariant.1;
       stops =

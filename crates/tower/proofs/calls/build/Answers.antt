@@ -3,14 +3,14 @@ use Rattle.std.proofs.lemmas.Result.{err_from_is_err_and}
 use Rattle.tower.proofs.Taken.{answer_refused, answer_taken, built}
 use Rattle.tower.proofs.calls.build.Goals as goal
 
-pub returns-in-err-side : goal.returns-in-err-side
-returns-in-err-side c =
+pub returns-in_err-side : goal.returns-in_err-side
+returns-in_err-side c =
     let p = err_from_is_err_and c.from-residual.result c.from-residual.ensures.1 in
-    answer_refused _ _ _ _ _ c.in-err-side.ensures (p.1 ∙ ap Err p.2)
+    answer_refused _ _ _ _ _ c.in_err-side.ensures (p.1 ∙ ap Err p.2)
 
 pub build-requires : goal.build-requires
 build-requires c =
-    let o = c.in-ok-side.ensures.1 in
+    let o = c.in_ok-side.ensures.1 in
     let s = o.side in
     let w = o.whole in
     let r = o.room in
@@ -18,5 +18,5 @@ build-requires c =
 
 pub returns : goal.returns
 returns c =
-    let o = c.in-ok-side.ensures in
+    let o = c.in_ok-side.ensures in
     answer_taken _ _ _ _ o.0 (built _ _ _ _ _ o.1 (omega arith) c.build.ensures.holds)

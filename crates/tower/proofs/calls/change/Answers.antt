@@ -4,13 +4,13 @@ use Rattle.std.proofs.lemmas.Int.{to_z_pos}
 use Rattle.tower.proofs.Taken.{answer_refused, answer_taken, changed}
 use Rattle.tower.proofs.calls.change.Goals as goal
 
-pub returns-in-err-side : goal.returns-in-err-side
-returns-in-err-side c =
+pub returns-in_err-side : goal.returns-in_err-side
+returns-in_err-side c =
     let p = err_from_is_err_and c.from-residual.result c.from-residual.ensures.1 in
-    answer_refused _ _ _ _ _ c.in-err-side.ensures (p.1 ∙ ap Err p.2)
+    answer_refused _ _ _ _ _ c.in_err-side.ensures (p.1 ∙ ap Err p.2)
 
 pub returns : goal.returns
 returns c =
-    let o = c.in-ok-side.ensures in
+    let o = c.in_ok-side.ensures in
     let h = o.1.height in
     answer_taken _ _ _ _ o.0 (changed _ _ _ _ _ c.args.height _ _ _ (to_z_pos w32 c.args.height (omega arith)) o.1 (omega arith) c.change.ensures.holds c.change.ensures.rest)

@@ -5,14 +5,14 @@ use Rattle.levels.proofs.Sizes.{power_more}
 use Rattle.tower.proofs.Taken.{answer_refused, answer_taken, shown}
 use Rattle.tower.proofs.calls.window.Goals as goal
 
-pub returns-in-err-side : goal.returns-in-err-side
-returns-in-err-side c =
+pub returns-in_err-side : goal.returns-in_err-side
+returns-in_err-side c =
     let p = err_from_is_err_and c.from-residual.result c.from-residual.ensures.1 in
-    answer_refused _ _ _ _ _ c.in-err-side.ensures (p.1 ∙ ap Err p.2)
+    answer_refused _ _ _ _ _ c.in_err-side.ensures (p.1 ∙ ap Err p.2)
 
 pub window-requires : goal.window-requires
 window-requires c =
-    let o = c.in-ok-side.ensures.1 in
+    let o = c.in_ok-side.ensures.1 in
     let k = c.args.k in
     let l = c.args.level in
     let hl = o.level in
@@ -25,5 +25,5 @@ window-requires c =
 
 pub returns : goal.returns
 returns c =
-    let o = c.in-ok-side.ensures in
+    let o = c.in_ok-side.ensures in
     answer_taken _ _ _ _ o.0 (shown _ _ _ _ _ _ _ _ _ _ _ o.1 (omega arith) c.window.ensures)

@@ -3,27 +3,27 @@ use Rattle.std.proofs.lemmas.Result.{err_from_is_err_and}
 use Rattle.tower.proofs.Order.{build_levels, build_number, build_room, build_taken}
 use Rattle.tower.proofs.checks.check_build.Goals as goal
 
-pub returns-in-err-side : goal.returns-in-err-side
-returns-in-err-side c =
+pub returns-in_err-side : goal.returns-in_err-side
+returns-in_err-side c =
     let p = err_from_is_err_and c.from-residual.result c.from-residual.ensures.1 in
-    let o = c.in-err-side.ensures in
+    let o = c.in_err-side.ensures in
     rw (p.1, p.2) (build_levels _ _ _ o.0 ∙ ap Some (sym o.1))
 
-pub returns-in-err-check-map : goal.returns-in-err-check-map
-returns-in-err-check-map c =
-    let p = err_from_is_err_and c.from-residual-in-err-check-map.result c.from-residual-in-err-check-map.ensures.1 in
-    let s = c.in-ok-side.ensures in
-    let o = c.in-err-check-map.ensures in
+pub returns-in_err-check_map : goal.returns-in_err-check_map
+returns-in_err-check_map c =
+    let p = err_from_is_err_and c.from-residual-in_err-check_map.result c.from-residual-in_err-check_map.ensures.1 in
+    let s = c.in_ok-side.ensures in
+    let o = c.in_err-check_map.ensures in
     rw (p.1, p.2) (build_number _ _ _ s.levels _ s.value o.0 o.1 ∙ ap Some (sym o.2))
 
 pub returns-then-room-side : goal.returns-then-room-side
 returns-then-room-side c =
-    let s = c.in-ok-side.ensures in
-    let m = c.in-ok-check-map.ensures in
+    let s = c.in_ok-side.ensures in
+    let m = c.in_ok-check_map.ensures in
     (build_taken _ _ _ s.levels _ s.value m.right c.if-room-side.true, record { side = s; whole = m.whole; heights = m.heights; room = c.if-room-side.true })
 
 pub returns-else-room-side : goal.returns-else-room-side
 returns-else-room-side c =
-    let s = c.in-ok-side.ensures in
-    let m = c.in-ok-check-map.ensures in
+    let s = c.in_ok-side.ensures in
+    let m = c.in_ok-check_map.ensures in
     build_room _ _ _ s.levels _ s.value m.right c.if-room-side.false

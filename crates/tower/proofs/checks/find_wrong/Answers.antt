@@ -7,16 +7,16 @@ use Rattle.tower.proofs.checks.find_wrong.Goals as goal
 pub returns-then-i-many : goal.returns-then-i-many
 returns-then-i-many c = sym (c.loop-i.invariant.1 ∙ wrong_many c.args.heights.now c.args.many c.loop-i.i (omega arith) (omega arith))
 
-pub returns-then-not-is-height : goal.returns-then-not-is-height
-returns-then-not-is-height c =
+pub returns-then-not-is_height : goal.returns-then-not-is_height
+returns-then-not-is_height c =
     let f : SFits w32 (line c.args.heights.now c.loop-i.i) = search rules in
-    let all = rw (to_z-of_z w32 (line c.args.heights.now c.loop-i.i) f) at c.if-not-is-height.ensures.all in
+    let all = rw (to_z-of_z w32 (line c.args.heights.now c.loop-i.i) f) at c.if-not-is_height.ensures.all in
     sym (c.loop-i.invariant.1 ∙ wrong_here c.args.heights.now c.args.many c.loop-i.i (omega arith) (omega arith) (λ h. all h))
 
 pub loop-i-preserved : goal.loop-i-preserved
 loop-i-preserved c =
     let f : SFits w32 (line c.args.heights.now c.loop-i.i) = search rules in
-    let h = rw (to_z-of_z w32 (line c.args.heights.now c.loop-i.i) f) at (c.if-not-is-height.ensures.holds tt) in
+    let h = rw (to_z-of_z w32 (line c.args.heights.now c.loop-i.i) f) at (c.if-not-is_height.ensures.holds tt) in
     (omega arith, c.loop-i.invariant.1 ∙ wrong_step c.args.heights.now c.args.many c.loop-i.i (omega arith) (omega arith) h)
 
 pub returns-then-heights-many : goal.returns-then-heights-many

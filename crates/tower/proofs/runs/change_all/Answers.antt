@@ -7,8 +7,8 @@ use Rattle.tower.specs.declared.runs.Change.{Change}
 use Rattle.tower.proofs.Replay.{each_taken, taken_place, made_step, made_none}
 use Rattle.tower.proofs.runs.change_all.Goals as goal
 
-pub overflow-cast-change : goal.overflow-cast-change
-overflow-cast-change c =
+pub overflow_cast-change : goal.overflow_cast-change
+overflow_cast-change c =
     let t = taken_place _ _ _ _ _ (each_taken _ _ c.args.changes.now c.loop-i.i (record { x = 0; y = 0; height = 0 }) c.requires.taken (omega arith)) in
     let h = t.2 in
     omega (arith, ints)

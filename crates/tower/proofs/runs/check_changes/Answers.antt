@@ -3,13 +3,13 @@ use Rattle.std.proofs.lemmas.Result.{err_from_is_err_and}
 use Rattle.tower.proofs.Replay.{refusal_step, refusal_here, refusal_none}
 use Rattle.tower.proofs.runs.check_changes.Goals as goal
 
-pub returns-in-err-check-change : goal.returns-in-err-check-change
-returns-in-err-check-change c =
+pub returns-in_err-check_change : goal.returns-in_err-check_change
+returns-in_err-check_change c =
     let p = err_from_is_err_and c.from-residual.result c.from-residual.ensures.1 in
-    rw (p.1, p.2) (c.loop-i.invariant ∙ refusal_here c.args.k c.args.tower c.args.changes.now c.loop-i.i _ _ (omega arith) c.in-err-check-change.ensures)
+    rw (p.1, p.2) (c.loop-i.invariant ∙ refusal_here c.args.k c.args.tower c.args.changes.now c.loop-i.i _ _ (omega arith) c.in_err-check_change.ensures)
 
 pub loop-i-preserved : goal.loop-i-preserved
-loop-i-preserved c = c.loop-i.invariant ∙ refusal_step c.args.k c.args.tower c.args.changes.now c.loop-i.i _ (omega arith) c.in-ok-check-change.ensures.0
+loop-i-preserved c = c.loop-i.invariant ∙ refusal_step c.args.k c.args.tower c.args.changes.now c.loop-i.i _ (omega arith) c.in_ok-check_change.ensures.0
 
 pub returns : goal.returns
 returns c = c.loop-i.invariant ∙ refusal_none c.args.k c.args.tower c.args.changes.now c.loop-i.i (omega arith)

@@ -7,22 +7,22 @@ use Rattle.tower.proofs.Taken.{answer_refused, answer_taken}
 use Rattle.tower.proofs.Replay.{run_map, run_rest, replayed}
 use Rattle.tower.proofs.runs.replay.Goals as goal
 
-pub returns-in-err-side : goal.returns-in-err-side
-returns-in-err-side c =
+pub returns-in_err-side : goal.returns-in_err-side
+returns-in_err-side c =
     let p = err_from_is_err_and c.from-residual.result c.from-residual.ensures.1 in
-    answer_refused _ _ _ _ _ (run_map _ _ _ _ _ c.in-err-side.ensures) (p.1 ∙ ap Err p.2)
+    answer_refused _ _ _ _ _ (run_map _ _ _ _ _ c.in_err-side.ensures) (p.1 ∙ ap Err p.2)
 
-pub returns-in-err-check-changes : goal.returns-in-err-check-changes
-returns-in-err-check-changes c =
-    let p = err_from_is_err_and c.from-residual-in-err-check-changes.result c.from-residual-in-err-check-changes.ensures.1 in
-    answer_refused _ _ _ _ _ (run_rest _ _ _ _ c.in-ok-side.ensures.0 ∙ c.in-err-check-changes.ensures) (p.1 ∙ ap Err p.2)
+pub returns-in_err-check_changes : goal.returns-in_err-check_changes
+returns-in_err-check_changes c =
+    let p = err_from_is_err_and c.from-residual-in_err-check_changes.result c.from-residual-in_err-check_changes.ensures.1 in
+    answer_refused _ _ _ _ _ (run_rest _ _ _ _ c.in_ok-side.ensures.0 ∙ c.in_err-check_changes.ensures) (p.1 ∙ ap Err p.2)
 
 pub returns : goal.returns
 returns c =
-    let o = c.in-ok-side.ensures in
+    let o = c.in_ok-side.ensures in
     let e = o.1.side.value in
     let k = c.args.k in
     let one = size_end k in
     let built = (rw e at c.build.ensures.holds) k one one in
-    let made = (rw e at c.change-all.ensures) (map_in (power k) c.args.heights.now) built in
-    answer_taken _ _ _ _ (run_rest _ _ _ _ o.0 ∙ c.in-ok-check-changes.ensures) (replayed _ _ _ _ made)
+    let made = (rw e at c.change_all.ensures) (map_in (power k) c.args.heights.now) built in
+    answer_taken _ _ _ _ (run_rest _ _ _ _ o.0 ∙ c.in_ok-check_changes.ensures) (replayed _ _ _ _ made)
