@@ -13,14 +13,14 @@ unfolding rest_text
 rest_more zs i before after whole lt e so_far =
     rw (e, append_assoc, add-one) (rw (drop-cons zs i (pos 0) lt) at so_far)
 
-pub rest_end : {X Y : Type 0} (r : Result X Y) (zs : List ℤ) (i : ℕ) (before after whole : List ℕ) → length zs ≤ i → IfOk r (λ _. after ≡ before ++ (10 ∷ [])) → before ++ rest_text (drop i zs) ≡ whole → IfOk r (λ _. after ≡ whole)
+pub rest_end : (zs : List ℤ) (i : ℕ) (before after whole : List ℕ) → length zs ≤ i → after ≡ before ++ (10 ∷ []) → before ++ rest_text (drop i zs) ≡ whole → after ≡ whole
 unfolding rest_text
-rest_end r zs i before after whole le said so_far = IfOk-weaker r _ _ (λ _ e. e ∙ (rw (drop_all i zs le) at so_far)) said
+rest_end zs i before after whole le e so_far = e ∙ (rw (drop_all i zs le) at so_far)
 
-pub row_empty : {X Y : Type 0} (r : Result X Y) (zs : List ℤ) (before after : List ℕ) → length zs ≡ 0 → IfOk r (λ _. after ≡ before ++ (10 ∷ [])) → IfOk r (λ _. after ≡ before ++ row_text zs)
+pub row_empty : (zs : List ℤ) (before after : List ℕ) → length zs ≡ 0 → after ≡ before ++ (10 ∷ []) → after ≡ before ++ row_text zs
 unfolding row_text
-row_empty r [] before after e said = said
-row_empty r (z ∷ zs) before after e said = absurd (omega arith)
+row_empty [] before after e said = said
+row_empty (z ∷ zs) before after e said = absurd (omega arith)
 
 pub row_first : {X Y : Type 0} (r : Result X Y) (zs : List ℤ) (before first after : List ℕ) → (length zs ≡ 0 → ⊥) → first ≡ before ++ signed_decimal (get_or zs 0 (pos 0)) → IfOk r (λ _. after ≡ first ++ rest_text (take (length zs - 1) (drop 1 zs))) → IfOk r (λ _. after ≡ before ++ row_text zs)
 unfolding row_text

@@ -12,7 +12,7 @@ pub returns-then-i-many : goal.returns-then-i-many
 returns-then-i-many c = told_wrong _ _ _ (sym c.loop-i.invariant.1 ∙ wrong_many c.args.row.now c.args.many c.loop-i.i (omega arith) (omega arith))
 
 pub returns-in_err-push : goal.returns-in_err-push
-returns-in_err-push c = let p = err_from_is_err_and c.from-residual.result c.from-residual.ensures.1 in rw p.1 tt
+returns-in_err-push c = let p = err_from_is_err_and c.from_residual.result c.from_residual.ensures.1 in rw p.1 tt
 
 pub returns-in-None : goal.returns-in-None
 returns-in-None c =

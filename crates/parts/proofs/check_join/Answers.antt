@@ -7,7 +7,7 @@ use Rattle.parts.proofs.check_join.Goals as goal
 
 pub returns-in_err-whole : goal.returns-in_err-whole
 returns-in_err-whole c =
-    let p = err_from_is_err_and c.from-residual.result c.from-residual.ensures.1 in
+    let p = err_from_is_err_and c.from_residual.result c.from_residual.ensures.1 in
     let o = c.in_err-whole.ensures in
     rw (p.1, p.2) (join_levels _ _ _ _ o.0 ∙ ap Some (sym o.1))
 
@@ -16,7 +16,7 @@ returns-then-k-eq0 c = join_level _ _ _ _ c.in_ok-whole.ensures.levels c.if-k-eq
 
 pub returns-in_err-check_length : goal.returns-in_err-check_length
 returns-in_err-check_length c =
-    let p = err_from_is_err_and c.from-residual-in_err-check_length.result c.from-residual-in_err-check_length.ensures.1 in
+    let p = err_from_is_err_and c.from_residual-in_err-check_length.result c.from_residual-in_err-check_length.ensures.1 in
     let s = c.in_ok-whole.ensures in
     let t = c.in_ok-part.ensures in
     let o = c.in_err-check_length.ensures in

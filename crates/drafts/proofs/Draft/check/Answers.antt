@@ -5,7 +5,7 @@ use Rattle.drafts.proofs.Draft.check.Goals as goal
 
 pub returns-in_err-side : goal.returns-in_err-side
 returns-in_err-side c =
-    let p = err_from_is_err_and c.from-residual.result c.from-residual.ensures.1 in
+    let p = err_from_is_err_and c.from_residual.result c.from_residual.ensures.1 in
     let h = c.in_err-side.ensures in
     record { side = rw p.1 tt; tells = λ g o. rw (p.1, p.2) (levels_refused o h.0 ∙ ap Some (sym h.1)) }
 

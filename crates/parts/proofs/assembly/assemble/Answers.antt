@@ -7,7 +7,7 @@ use Rattle.parts.proofs.assembly.assemble.Goals as goal
 
 pub returns-in_err-whole : goal.returns-in_err-whole
 returns-in_err-whole c =
-    let p = err_from_is_err_and c.from-residual.result c.from-residual.ensures.1 in
+    let p = err_from_is_err_and c.from_residual.result c.from_residual.ensures.1 in
     let o = c.in_err-whole.ensures in
     answer_refused _ _ _ _ _ (assemble_levels _ _ _ o.0 ∙ ap Some (sym o.1)) (p.1 ∙ ap Err p.2)
 

@@ -9,14 +9,14 @@ loop-i-init g c = (length-replicate g.row.N 0, so_far_none number _)
 
 pub returns-in_err-word : goal.returns-in_err-word
 returns-in_err-word g c =
-    rw c.from-residual.ensures
+    rw c.from_residual.ensures
     (λ ns e long. let all = so_far_all number _ _ _ c.loop-i.invariant.1 c.in_err-word.ensures in
     let same : take c.loop-i.i c.loop-i.numbers ≡ ns = cc in
     omega (arith, ap length same, length-take-le c.loop-i.i c.loop-i.numbers (omega arith)))
 
 pub returns-in_err-numbers : goal.returns-in_err-numbers
 returns-in_err-numbers g c =
-    rw c.from-residual-in_err-numbers.ensures
+    rw c.from_residual-in_err-numbers.ensures
     (λ ns e long. let wrong = so_far_wrong number _ _ _ _ _ c.loop-i.invariant.1 c.in_ok-word.ensures.0 c.in_err-numbers.ensures in
     let none = sym wrong ∙ e in
     grind arith)

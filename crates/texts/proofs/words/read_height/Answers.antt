@@ -5,7 +5,7 @@ use Rattle.texts.proofs.words.read_height.Goals as goal
 use Rattle.texts.proofs.words.read_height.Goals.{in_default-via-then-word-lt1, in_default-via-else-word-lt1+in_default·}
 
 pub returns-in_err-number : goal.returns-in_err-number
-returns-in_err-number c = c.from-residual.ensures ∙ sym (height_minus_read c.args.word.now _ (omega arith) c.in_err-number.ensures)
+returns-in_err-number c = c.from_residual.ensures ∙ sym (height_minus_read c.args.word.now _ (omega arith) c.in_err-number.ensures)
 
 pub returns-in_ok-number : goal.returns-in_ok-number
 returns-in_ok-number c = sym (height_minus_read c.args.word.now _ (omega arith) c.in_ok-number.ensures)

@@ -14,13 +14,13 @@ returns-then-not-is_ascii_digit c = sym (number_other _ _ c.loop-byte-test.true 
 pub returns-in_err-checked_mul : goal.returns-in_err-checked_mul
 returns-in_err-checked_mul c =
     let big = c.in_err-checked_mul.ensures in
-    rw c.from-residual.ensures (sym (number_big _ _ c.loop-byte-test.true c.if-not-is_ascii_digit.ensures.cases (omega (arith, c.loop-byte.invariant.1))))
+    rw c.from_residual.ensures (sym (number_big _ _ c.loop-byte-test.true c.if-not-is_ascii_digit.ensures.cases (omega (arith, c.loop-byte.invariant.1))))
 
 pub returns-in_err-number : goal.returns-in_err-number
 returns-in_err-number c =
     let big = c.in_err-number.ensures in
     let so_far = c.in_ok-checked_mul.ensures in
-    rw c.from-residual-in_err-number.ensures (sym (number_big _ _ c.loop-byte-test.true c.if-not-is_ascii_digit.ensures.cases (omega (arith, c.loop-byte.invariant.1))))
+    rw c.from_residual-in_err-number.ensures (sym (number_big _ _ c.loop-byte-test.true c.if-not-is_ascii_digit.ensures.cases (omega (arith, c.loop-byte.invariant.1))))
 
 pub loop-byte-preserved : goal.loop-byte-preserved
 loop-byte-preserved c =

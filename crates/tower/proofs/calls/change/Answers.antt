@@ -6,7 +6,7 @@ use Rattle.tower.proofs.calls.change.Goals as goal
 
 pub returns-in_err-side : goal.returns-in_err-side
 returns-in_err-side c =
-    let p = err_from_is_err_and c.from-residual.result c.from-residual.ensures.1 in
+    let p = err_from_is_err_and c.from_residual.result c.from_residual.ensures.1 in
     answer_refused _ _ _ _ _ c.in_err-side.ensures (p.1 ∙ ap Err p.2)
 
 pub returns : goal.returns

@@ -5,13 +5,13 @@ use Rattle.tower.proofs.checks.check_build.Goals as goal
 
 pub returns-in_err-side : goal.returns-in_err-side
 returns-in_err-side c =
-    let p = err_from_is_err_and c.from-residual.result c.from-residual.ensures.1 in
+    let p = err_from_is_err_and c.from_residual.result c.from_residual.ensures.1 in
     let o = c.in_err-side.ensures in
     rw (p.1, p.2) (build_levels _ _ _ o.0 ∙ ap Some (sym o.1))
 
 pub returns-in_err-check_map : goal.returns-in_err-check_map
 returns-in_err-check_map c =
-    let p = err_from_is_err_and c.from-residual-in_err-check_map.result c.from-residual-in_err-check_map.ensures.1 in
+    let p = err_from_is_err_and c.from_residual-in_err-check_map.result c.from_residual-in_err-check_map.ensures.1 in
     let s = c.in_ok-side.ensures in
     let o = c.in_err-check_map.ensures in
     rw (p.1, p.2) (build_number _ _ _ s.levels _ s.value o.0 o.1 ∙ ap Some (sym o.2))

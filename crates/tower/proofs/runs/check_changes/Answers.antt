@@ -5,7 +5,7 @@ use Rattle.tower.proofs.runs.check_changes.Goals as goal
 
 pub returns-in_err-check_change : goal.returns-in_err-check_change
 returns-in_err-check_change c =
-    let p = err_from_is_err_and c.from-residual.result c.from-residual.ensures.1 in
+    let p = err_from_is_err_and c.from_residual.result c.from_residual.ensures.1 in
     rw (p.1, p.2) (c.loop-i.invariant ∙ refusal_here c.args.k c.args.tower c.args.changes.now c.loop-i.i _ _ (omega arith) c.in_err-check_change.ensures)
 
 pub loop-i-preserved : goal.loop-i-preserved

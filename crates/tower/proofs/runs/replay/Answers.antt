@@ -9,12 +9,12 @@ use Rattle.tower.proofs.runs.replay.Goals as goal
 
 pub returns-in_err-side : goal.returns-in_err-side
 returns-in_err-side c =
-    let p = err_from_is_err_and c.from-residual.result c.from-residual.ensures.1 in
+    let p = err_from_is_err_and c.from_residual.result c.from_residual.ensures.1 in
     answer_refused _ _ _ _ _ (run_map _ _ _ _ _ c.in_err-side.ensures) (p.1 ∙ ap Err p.2)
 
 pub returns-in_err-check_changes : goal.returns-in_err-check_changes
 returns-in_err-check_changes c =
-    let p = err_from_is_err_and c.from-residual-in_err-check_changes.result c.from-residual-in_err-check_changes.ensures.1 in
+    let p = err_from_is_err_and c.from_residual-in_err-check_changes.result c.from_residual-in_err-check_changes.ensures.1 in
     answer_refused _ _ _ _ _ (run_rest _ _ _ _ c.in_ok-side.ensures.0 ∙ c.in_err-check_changes.ensures) (p.1 ∙ ap Err p.2)
 
 pub returns : goal.returns
