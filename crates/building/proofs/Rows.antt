@@ -1,10 +1,10 @@
 -- The rows of a map halved, one after the other. Assumes nothing.
-use Rattle.std.proofs.Common.{◌≡◌, ℕ, ◌+◌, ◌*◌, ◌/◌, ◌%◌, ◌<◌, ◌≤◌, ◌≢◌, ◌⊎◌, List, length, ℤ, pos, sym, refl, ap, ◌∙◌, ap₂, inl, inr, ⊎_elim, mul-le-mul_right, arith}
+use Rattle.std.proofs.Common.{◌≡◌, ℕ, ◌+◌, ◌*◌, ◌/◌, ◌%◌, ◌<◌, ◌≤◌, ◌≢◌, ◌⊎◌, List, length, ℤ, pos, sym, ap, ◌∙◌, ap₂, inl, inr, ⊎_elim, mul-le-mul_right, arith}
 use Rattle.std.specs.List.{between}
 use Rattle.std.proofs.lemmas.List.Edits.{length-between, get_or-between}
 use Rattle.std.proofs.lemmas.Bool.{cases_eq}
 use Rattle.pairs.specs.Pairs.{difference_of}
-use Rattle.levels.specs.Maps.{Map, apart, means, across}
+use Rattle.levels.specs.Maps.{apart, means, across}
 use Rattle.levels.specs.Numbering.{map_in}
 use Rattle.levels.proofs.Lines.{up_same}
 use Rattle.maps.specs.Rows.{line, RowHalved}

@@ -1,5 +1,5 @@
 -- What halving keeps: bounds, order and slope. Assumes nothing.
-use Rattle.std.proofs.Common.{◌≡◌, ℕ, zero, suc, ◌+◌, ◌*◌, ◌/◌, ◌<◌, ◌≤◌, ℤ, ◌≤ℤ◌, sym, refl, ap, ◌∙◌, div-one, arith}
+use Rattle.std.proofs.Common.{◌≡◌, ℕ, zero, suc, ◌+◌, ◌*◌, ◌/◌, ◌<◌, ℤ, ◌≤ℤ◌, ap, ◌∙◌, div-one, arith}
 use borrow.Author.Differences.{ints}
 use Rattle.pairs.specs.Pairs.{mean_of}
 use Rattle.pairs.proofs.Half.{half_is}

@@ -1,12 +1,12 @@
 -- A list that holds the tower of a map, one level up and one level down. Assumes nothing.
-use Rattle.std.proofs.Common.{◌≡◌, ℕ, zero, suc, ◌+◌, ◌-◌, ◌*◌, ◌/◌, ◌<◌, ◌≤◌, List, get_or, ℤ, pos, sym, refl, ap, ◌∙◌, ⊎_elim, le_refl, mul-le-mul, one-add, arith}
+use Rattle.std.proofs.Common.{◌≡◌, ℕ, zero, suc, ◌+◌, ◌-◌, ◌*◌, ◌/◌, ◌<◌, ◌≤◌, List, get_or, ℤ, pos, sym, refl, ap, ◌∙◌, mul-le-mul, arith}
 use Rattle.pairs.specs.Pairs.{Height, Difference}
-use Rattle.levels.specs.Maps.{Map, size, line_up, apart, means, across, halved, down, level}
+use Rattle.levels.specs.Maps.{Map, size, line_up, means, across, halved, down, level}
 use Rattle.levels.specs.Towers.{Tower, tower, SameTower}
 use Rattle.levels.specs.Numbering.{down_index, across_index, tower_in, Holds}
-use Rattle.levels.proofs.Sizes.{size_inner, size_one, size_le, size_pos}
+use Rattle.levels.proofs.Sizes.{size_inner, size_one, size_le}
 use Rattle.levels.proofs.Lines.{up_height, apart_difference}
-use Rattle.levels.proofs.Parts.{level_level, down_within, across_within}
+use Rattle.levels.proofs.Parts.{down_within, across_within}
 
 pub level_inner : (l w h : ℕ) (p : Map) → level l ((w + 1) / 2) ((h + 1) / 2) (halved w h p) ≡ level (suc l) w h p
 unfolding level size

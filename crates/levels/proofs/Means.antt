@@ -1,5 +1,5 @@
 -- A place and the mean of its square. Assumes nothing.
-use Rattle.std.proofs.Common.{◌≡◌, ℕ, zero, suc, ◌+◌, ◌*◌, ◌/◌, ◌<◌, ◌≤◌, ℤ, pos, negsuc, ◌+ℤ◌, ◌*ℤ◌, ◌≤ℤ◌, sym, refl, ap, ◌∙◌, ap₂, add-zero, add-suc, mul-le-mul_right, arith}
+use Rattle.std.proofs.Common.{◌≡◌, ℕ, zero, suc, ◌+◌, ◌*◌, ◌≤◌, ℤ, pos, ◌+ℤ◌, ◌*ℤ◌, ◌≤ℤ◌, refl, ap, ◌∙◌, ap₂, add-zero, add-suc, mul-le-mul_right, arith}
 use mathlib.Core.Path.{fun_ext}
 use borrow.Author.Differences.{up, down, ints, sum_is_lem}
 use Rattle.pairs.specs.Pairs.{mean_of}

@@ -4,7 +4,7 @@ use Rattle.std.proofs.lemmas.Nat.{div-add-mod', div-mul-add, mod-mul-add, div_be
 use Rattle.std.proofs.lemmas.Bool.{cases_lt, cases_order}
 use Rattle.levels.specs.Maps.{size}
 use Rattle.levels.specs.Numbering.{down_index, across_index, Entry, the_top, a_down, an_across, index, There}
-use Rattle.levels.specs.Laws.{Numbered, NumbersAll}
+use Rattle.levels.specs.Laws.{NumbersAll}
 use Rattle.levels.proofs.Sizes.{size_le, size_pos}
 use Rattle.levels.proofs.Parts.{down_within, across_within}
 

@@ -1,8 +1,8 @@
 -- The first numbers of a tower are the tower of a smaller map. Assumes nothing.
-use Rattle.std.proofs.Common.{◌≡◌, ℕ, zero, suc, ◌+◌, ◌-◌, ◌*◌, ◌/◌, ◌<◌, ◌≤◌, List, get_or, take, ℤ, pos, sym, refl, ap, ◌∙◌, add-zero, add-suc, mul-le-mul_right, mul-le-mul, arith}
+use Rattle.std.proofs.Common.{◌≡◌, ℕ, zero, suc, ◌+◌, ◌-◌, ◌*◌, ◌/◌, ◌<◌, ◌≤◌, pos, ap, ◌∙◌, add-zero, add-suc, mul-le-mul_right, mul-le-mul, arith}
 use Rattle.std.proofs.lemmas.List.{get_or-take}
 use Rattle.levels.specs.Maps.{Map, size, level, halved}
-use Rattle.levels.specs.Towers.{Tower, tower, SameTower}
+use Rattle.levels.specs.Towers.{tower}
 use Rattle.levels.specs.Numbering.{down_index, across_index, tower_in}
 use Rattle.levels.specs.Laws.{PartIsTower}
 use Rattle.levels.proofs.Sizes.{size_size, size_pos, size_le}

@@ -1,11 +1,11 @@
 -- The laws of 2^k by 2^k places, from those of any size. Assumes nothing.
-use Rattle.std.proofs.Common.{◌≡◌, ℕ, zero, suc, ◌+◌, ◌-◌, ◌*◌, ◌/◌, ◌<◌, ◌≤◌, List, take, ℤ, sym, refl, ap, ◌∙◌, le_refl, add-zero, add-suc, mul-le-mul_right, div-mul-le_self, arith}
+use Rattle.std.proofs.Common.{◌≡◌, ℕ, zero, suc, ◌+◌, ◌-◌, ◌*◌, ◌/◌, ◌<◌, ◌≤◌, take, sym, refl, ap, ◌∙◌, le_refl, add-zero, add-suc, mul-le-mul_right, div-mul-le_self, arith}
 use Rattle.levels.specs.Maps.{Map, power, size, with_height}
 use Rattle.levels.specs.Maps as Sized
 use Rattle.levels.specs.Towers.{Tower}
 use Rattle.levels.specs.Towers as Sized-towers
 use Rattle.levels.specs.Numbering as Sized-numbers
-use Rattle.levels.specs.Square.{across, halved, down, halved_times, tower, shown, at_level, tower_in, SameTower}
+use Rattle.levels.specs.Square.{halved, halved_times, tower, shown, at_level, tower_in, SameTower}
 use Rattle.levels.specs.SquareLaws.{ShowsAll, ShowsHeld, Between, ChangesFew, WindowOnly, PartIsTower}
 use Rattle.levels.proofs.Sizes.{power_pos, size_full, size_size, div_power}
 use Rattle.levels.proofs.Levels as Sized-levels

@@ -9,9 +9,8 @@ use Rattle.levels.specs.Numbering as Sized-numbers
 use Rattle.levels.specs.Numbering.{down_index, across_index}
 use Rattle.levels.specs.Square.{means, across, halved, down, halved_times, joined, tower, shown, at_level, begins, tower_in, SameTower}
 use Rattle.levels.specs.SquareLaws.{BothTheSame}
-use Rattle.levels.proofs.Sizes.{size_full}
 use Rattle.levels.proofs.Lines.{down_pair}
-use Rattle.levels.proofs.Levels.{pair_whole, means_whole, level_four}
+use Rattle.levels.proofs.Levels.{means_whole, level_four}
 
 pub power_add : (m n : ℕ) → power (m + n) ≡ power m * power n
 unfolding power

@@ -1,13 +1,13 @@
 -- Which numbers of a tower a change of one height touches. Assumes nothing.
-use Rattle.std.proofs.Common.{◌≡◌, ℕ, zero, suc, ◌+◌, ◌-◌, ◌*◌, ◌/◌, ◌<◌, ◌≤◌, Bool, true, false, cond, List, [], ◌∷◌, ◌++◌, length, get_or, ℤ, pos, sym, refl, ap, ◌∙◌, ⊎_elim, div-one, arith, length-append}
+use Rattle.std.proofs.Common.{◌≡◌, ℕ, zero, suc, ◌+◌, ◌*◌, ◌/◌, ◌<◌, ◌≤◌, Bool, true, false, cond, List, [], ◌∷◌, ◌++◌, length, get_or, ℤ, pos, sym, refl, ◌∙◌, div-one, arith, length-append}
 use Rattle.std.specs.List.{ContainsAt as Has}
 use Rattle.std.proofs.ByRecursion.{has_get_or, has_append_left, has_append_right}
-use Rattle.std.proofs.lemmas.Bool.{lt-ltb, cases_eq}
-use Rattle.levels.specs.Maps.{Map, power, size, paired, across, down, level, with_height}
-use Rattle.levels.specs.Towers.{Tower, tower, SameTower}
-use Rattle.levels.specs.Numbering.{down_index, across_index, tower_in, Entry, the_top, a_down, an_across, number, index, There, touched}
-use Rattle.levels.specs.Laws.{FewTouched, TouchesFew}
-use Rattle.levels.proofs.Sizes.{size_inner, half_power, div_power}
+use Rattle.std.proofs.lemmas.Bool.{lt-ltb}
+use Rattle.levels.specs.Maps.{Map, power, size, paired, with_height}
+use Rattle.levels.specs.Towers.{tower, SameTower}
+use Rattle.levels.specs.Numbering.{down_index, across_index, tower_in, Entry, the_top, a_down, an_across, index, There, touched}
+use Rattle.levels.specs.Laws.{TouchesFew}
+use Rattle.levels.proofs.Sizes.{size_inner, half_power}
 use Rattle.levels.proofs.Changes.{changes_few_lem}
 use Rattle.levels.proofs.Numbers.{numbers_all_lem}
 

@@ -1,5 +1,5 @@
 -- What lies beside a window does not matter for it. Assumes nothing.
-use Rattle.std.proofs.Common.{◌≡◌, ℕ, zero, suc, ◌+◌, ◌-◌, ◌*◌, ◌/◌, ◌<◌, ◌≤◌, true, T, ℤ, refl, ap, ◌∙◌, ap₂, ⊎_elim, div-one, arith, lt→ltb}
+use Rattle.std.proofs.Common.{◌≡◌, ℕ, zero, suc, ◌+◌, ◌-◌, ◌*◌, ◌/◌, ◌≤◌, T, ℤ, ap₂, ⊎_elim, div-one, arith, lt→ltb}
 use Rattle.std.proofs.lemmas.Bool.{cases_lt}
 use Rattle.pairs.specs.Pairs.{one_of}
 use Rattle.levels.specs.Maps.{Map, power, size, paired, line_down, joined}

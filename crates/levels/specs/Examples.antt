@@ -1,5 +1,5 @@
 -- Worked examples: the map 10 13 / 20 20 and its tower 15, -9, -3 0. Assumes nothing.
-use Rattle.std.specs.Prelude.{◌≡◌, ℕ, List, [], ◌∷◌, ℤ, pos, negsuc}
+use Rattle.std.specs.Prelude.{◌≡◌, List, [], ◌∷◌, ℤ, pos, negsuc}
 use Rattle.levels.specs.Maps.{Map, with_height}
 use Rattle.levels.specs.Towers.{tower, at_level, SameTower}
 use Rattle.levels.specs.Numbering.{map_in, tower_in}

@@ -8,7 +8,7 @@
 --     joined              the map again, from the halved one and the differences
 --     level               the map halved so often; level 0 is the map itself
 --     with_height         the map with one height changed
-use Rattle.std.specs.Prelude.{ℕ, zero, suc, ◌+◌, ◌*◌, ◌/◌, ◌%◌, Bool, cond, ◌&&◌, ℤ, ◌==◌, nat_lt}
+use Rattle.std.specs.Prelude.{ℕ, zero, suc, ◌+◌, ◌*◌, ◌/◌, Bool, cond, ◌&&◌, ℤ, ◌==◌, nat_lt}
 use Rattle.pairs.specs.Pairs.{mean_of, difference_of, one_of}
 
 abbrev pub Map : Type 0

@@ -1,7 +1,7 @@
 -- The numbers and the places of refusals. Assumes nothing: these are definitions.
 --     number, place       what each case is known by outside
 --     refused_if          a refusal where a test applies, and else what the later tests give: a list of refusals is written in the order of its checks
-use Rattle.std.specs.Prelude.{ℕ, Bool, true, false, Some, None, Option}
+use Rattle.std.specs.Prelude.{ℕ, Bool, true, false, Some, Option}
 use Rattle.refusals.specs.declared.Refusal.{Refusal}
 use Rattle.refusals.specs.declared.Refusal.TheVariants.{TooManyLevels, WrongNumber, WrongRoom, NoSuchLevel, OffTheMap, TooHigh, Unreadable}
 

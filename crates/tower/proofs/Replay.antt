@@ -1,8 +1,8 @@
 -- Changes made one after the other. Assumes nothing.
-use Rattle.std.proofs.Common.{◌≡◌, ℕ, zero, suc, ◌+◌, ◌-◌, ◌*◌, ◌<◌, ◌≤◌, true, false, List, [], ◌∷◌, length, get_or, drop, ℤ, pos, Some, None, Option, sym, refl, ap, ◌∙◌, arith}
+use Rattle.std.proofs.Common.{◌≡◌, ℕ, zero, suc, ◌+◌, ◌<◌, ◌≤◌, List, [], ◌∷◌, length, get_or, drop, ℤ, pos, Some, None, Option, sym, refl, ◌∙◌, arith}
 use Rattle.std.proofs.lemmas.List.{drop_more, drop_all, ext_get_or}
 use Rattle.std.proofs.lemmas.Bool.Decides.{nat_tests}
-use Rattle.levels.specs.Maps.{Map, power, size, with_height}
+use Rattle.levels.specs.Maps.{Map, power, with_height}
 use Rattle.levels.specs.Numbering.{Holds, map_in, number, index, tower_in, Entry, the_top, a_down, an_across, There}
 use Rattle.levels.specs.Square as Square
 use Rattle.levels.specs.Towers.{tower}
@@ -14,7 +14,6 @@ use Rattle.maps.specs.Rows.{line}
 use Rattle.refusals.specs.declared.Refusal.{Refusal}
 use Rattle.tower.specs.declared.runs.Change.{Change}
 use Rattle.tower.specs.Checks.{places, build_refusal, change_refusal}
-use Rattle.tower.specs.Calls.{ChangedTower}
 use Rattle.tower.specs.Runs.{made_all, or_else, first_refusal, replay_refusal, Replayed, CallsEitherOrder, CallsUndone}
 use Rattle.tower.proofs.Squared.{to_tower}
 

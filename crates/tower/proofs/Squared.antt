@@ -1,8 +1,6 @@
 -- What is said of any size, in the words of 2^k by 2^k places. Assumes nothing.
-use Rattle.std.proofs.Common.{◌≡◌, ℕ, ◌+◌, ◌-◌, ◌*◌, ◌<◌, ◌≤◌, List, ℤ, pos, sym, ◌∙◌, le_refl, arith}
-use Rattle.std.specs.List.{ContainsAt as Has}
-use Rattle.pairs.specs.Pairs.{Height}
-use Rattle.levels.specs.Maps.{Map, power, size, level, with_height}
+use Rattle.std.proofs.Common.{◌≡◌, ℕ, ◌-◌, ◌<◌, ◌≤◌, List, ℤ, sym, ◌∙◌}
+use Rattle.levels.specs.Maps.{Map, power, level}
 use Rattle.levels.specs.Towers as Sized
 use Rattle.levels.specs.Numbering as Sized-numbers
 use Rattle.levels.specs.Numbering.{Holds}
@@ -10,7 +8,6 @@ use Rattle.levels.specs.Square as Square
 use Rattle.levels.proofs.Held.{level_held}
 use Rattle.levels.proofs.Squares.{size_power, size_end, whole, level_whole, towers_same, numbering_same, to_square, from_square, same_sym, same_trans}
 use Rattle.levels.proofs.SquareLaws.{shows_held_lem}
-use Rattle.maps.specs.Rows.{line}
 use Rattle.tower.specs.Calls.{IsTowerOf}
 
 module _ (k : ℕ) (ts : List ℤ) (p : Map) where

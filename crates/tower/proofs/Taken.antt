@@ -1,5 +1,5 @@
 -- What the calls answer and leave. Assumes nothing.
-use Rattle.std.proofs.Common.{◌≡◌, ℕ, ◌+◌, ◌-◌, ◌*◌, ◌<◌, ◌≤◌, List, length, ℤ, pos, Some, None, Ok, Err, Option, Result, sym, refl, ◌∙◌, arith}
+use Rattle.std.proofs.Common.{◌≡◌, ℕ, ◌+◌, ◌-◌, ◌*◌, ◌<◌, List, length, ℤ, pos, Some, None, Ok, Err, Option, Result, refl, ◌∙◌, arith}
 use borrow.Author.Differences.{ints}
 use Rattle.std.specs.List.{ContainsAt as Has}
 use Rattle.pairs.specs.Pairs.{Height}
@@ -10,11 +10,11 @@ use Rattle.levels.proofs.Touched.{few}
 use Rattle.maps.specs.Rows.{line}
 use Rattle.refusals.specs.declared.Refusal.{Refusal}
 use Rattle.tower.specs.Checks.{places}
-use Rattle.tower.specs.Known.{SideOf, CanBuild, CanChange, CanShow}
+use Rattle.tower.specs.Known.{CanBuild, CanChange, CanShow}
 use Rattle.refusals.specs.Refusals.{number}
 use Rattle.tower.specs.declared.Done.{Done}
 use Rattle.tower.specs.declared.Done.TheVariants.{Refused}
-use Rattle.tower.specs.Calls.{IsTowerOf, BuiltTower, ChangedTower, ShownWindow, Answered, Entered}
+use Rattle.tower.specs.Calls.{BuiltTower, ChangedTower, ShownWindow, Answered, Entered}
 use Rattle.tower.proofs.Squared.{to_tower, from_tower, level_tower, level_shown}
 
 pub answer_refused : (f : Option Refusal) (r : Result (Unit {0}) Refusal) (e : Refusal) (was : List ℤ) (taken : Type 0) → f ≡ Some e → r ≡ Err e → Answered f r was was taken

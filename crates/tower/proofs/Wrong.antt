@@ -1,8 +1,8 @@
 -- The first wrong number of a map. Assumes nothing.
-use Rattle.std.proofs.Common.{◌≡◌, ℕ, zero, suc, ◌+◌, ◌-◌, ◌<◌, ◌≤◌, Bool, true, false, cond, leb, List, [], ◌∷◌, length, drop, ℤ, pos, negsuc, Some, None, Option, sym, refl, ap, ◌∙◌, arith}
+use Rattle.std.proofs.Common.{◌≡◌, ℕ, zero, suc, ◌+◌, ◌-◌, ◌<◌, Bool, true, false, cond, List, [], ◌∷◌, length, drop, ℤ, pos, negsuc, Some, None, refl, ap, arith}
 use borrow.Author.Differences.{ints}
 use Rattle.std.proofs.lemmas.List.{drop_more, drop_all}
-use Rattle.std.proofs.lemmas.Bool.{leb-true, le-leb, false≢true, true≢false}
+use Rattle.std.proofs.lemmas.Bool.{leb-true, le-leb, false≢true}
 use Rattle.pairs.specs.Pairs.{Height}
 use Rattle.maps.specs.Rows.{line}
 use Rattle.tower.specs.Checks.{is_height, first_wrong}

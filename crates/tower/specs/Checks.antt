@@ -3,7 +3,7 @@
 --     is_height, first_wrong     a height; the first place of a map that is missing, too many or no height
 --     is_on_side             a stretch of places, from one on, lies within a side
 --     build_refusal, window_refusal, change_refusal     the refusal of a call, or none
-use Rattle.std.specs.Prelude.{ℕ, zero, suc, ◌+◌, ◌-◌, ◌*◌, min, Bool, true, false, cond, not, ◌&&◌, List, [], ◌∷◌, length, ℤ, pos, negsuc, Some, None, Option, ◌==◌, nat_le, nat_lt}
+use Rattle.std.specs.Prelude.{ℕ, zero, suc, ◌+◌, ◌-◌, ◌*◌, min, Bool, false, cond, not, ◌&&◌, List, [], ◌∷◌, ℤ, pos, negsuc, Some, None, Option, ◌==◌, nat_le, nat_lt}
 use Rattle.pairs.specs.Pairs.{max_height}
 use Rattle.levels.specs.Maps.{power}
 use Rattle.maps.specs.Limits.{max_k}

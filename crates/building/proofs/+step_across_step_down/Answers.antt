@@ -1,11 +1,7 @@
-use Rattle.std.proofs.Common.{◌≡◌, ℕ, suc, ◌+◌, ◌*◌, ◌/◌, ◌<◌, ◌≤◌, ◌≢◌, pos, refl, ap, ◌∙◌, mul-le-mul, mul-le-mul_left, arith}
+use Rattle.std.proofs.Common.{◌≡◌, ◌+◌, ◌*◌, ◌/◌, ◌≤◌, ◌≢◌, pos, refl, ◌∙◌, mul-le-mul, mul-le-mul_left, arith}
 use Rattle.std.proofs.lemmas.List.{get_or-set_same, get_or-set_other}
 use Rattle.pairs.proofs.Exact.{read_height}
-use Rattle.levels.specs.Maps.{Map, size, means}
-use Rattle.levels.specs.Numbering.{Holds}
-use Rattle.levels.proofs.Held.{next_level}
 use Rattle.maps.specs.Rows.{line}
-use Rattle.building.specs.Steps.{BeginsWith}
 use Rattle.building.proofs.Rows.{widths}
 use Rattle.building.proofs.Steps.{heights_part, one_built, out_heights, out_map, downs_there, rest_down, means_heights, rows_built, rest_across}
 use Rattle.building.proofs.+step_across_step_down.Goals as goal

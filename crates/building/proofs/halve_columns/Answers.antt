@@ -1,4 +1,4 @@
-use Rattle.std.proofs.Common.{◌≡◌, ◌+◌, ◌<◌, arith}
+use Rattle.std.proofs.Common.{◌+◌, arith}
 use Rattle.pairs.proofs.Half.{mean_height, difference_in}
 use Rattle.pairs.proofs.Exact.{pair_read, read_height, read_difference}
 use Rattle.building.proofs.Columns.{columns_more}

@@ -1,6 +1,6 @@
-use Rattle.std.proofs.Common.{◌≡◌, ◌+◌, ◌*◌, ◌/◌, ◌<◌, ◌≤◌, length, arith}
+use Rattle.std.proofs.Common.{◌+◌, ◌*◌, ◌/◌, ◌<◌, ◌≤◌, length, arith}
 use Rattle.levels.specs.Numbering.{map_in}
-use Rattle.building.proofs.Rows.{row_before, row_within, widths, row, row_length, row_line, row_put, rows_more}
+use Rattle.building.proofs.Rows.{row_before, row_within, widths, row_length, row_line, row_put, rows_more}
 use Rattle.building.proofs.halve_rows.Goals as goal
 
 pub slice_bounds-row-end : goal.slice_bounds-row-end

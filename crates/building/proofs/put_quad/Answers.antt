@@ -1,4 +1,4 @@
-use Rattle.std.proofs.Common.{◌≡◌, refl, ◌∙◌, arith}
+use Rattle.std.proofs.Common.{refl, ◌∙◌, arith}
 use Rattle.pairs.proofs.Half.{mean_height, difference_in}
 use Rattle.pairs.proofs.Exact.{read_height, read_difference}
 use Rattle.building.proofs.Steps.{quad_built, four_0, four_1, four_2, four_3, four_past}

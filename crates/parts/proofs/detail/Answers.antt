@@ -1,4 +1,4 @@
-use Rattle.std.proofs.Common.{◌-◌, refl}
+use Rattle.std.proofs.Common.{refl}
 use Rattle.parts.specs.Parts.{detail_of}
 use Rattle.parts.proofs.Cut.{handed, none_handed}
 use Rattle.parts.proofs.detail.Goals as goal

@@ -1,4 +1,4 @@
-use Rattle.std.proofs.Common.{◌≡◌, ◌*◌, ◌%◌, ◌^◌, ◌<◌, ◌≤◌, sym, ◌∙◌, mod-eq_of_lt, arith, pow_mono}
+use Rattle.std.proofs.Common.{◌≡◌, ◌*◌, ◌^◌, ◌<◌, ◌≤◌, sym, ◌∙◌, mod-eq_of_lt, arith, pow_mono}
 use Rattle.levels.proofs.Sizes.{power_is}
 use Rattle.maps.proofs.HeightMap.side.Goals as goal
 

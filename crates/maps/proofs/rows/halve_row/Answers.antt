@@ -1,4 +1,4 @@
-use Rattle.std.proofs.Common.{◌≡◌, ℕ, ◌+◌, ◌*◌, ◌/◌, ◌<◌, length, sym, refl, ◌∙◌, arith}
+use Rattle.std.proofs.Common.{◌≡◌, ◌+◌, ◌*◌, ◌/◌, length, sym, refl, ◌∙◌, arith}
 use Rattle.pairs.proofs.Half.{mean_height, difference_in}
 use Rattle.pairs.proofs.Exact.{pair_read, read_height, read_difference}
 use Rattle.levels.specs.Maps.{apart}

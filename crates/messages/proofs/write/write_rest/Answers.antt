@@ -1,4 +1,3 @@
-use Rattle.std.proofs.Common.{arith}
 use Rattle.messages.proofs.Rows.{rest_more, rest_end}
 use Rattle.messages.proofs.write.write_rest.Goals as goal
 

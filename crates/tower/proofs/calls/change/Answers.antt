@@ -1,4 +1,4 @@
-use Rattle.std.proofs.Common.{◌≡◌, Err, ap, ◌∙◌, arith, w32}
+use Rattle.std.proofs.Common.{Err, ap, ◌∙◌, arith, w32}
 use Rattle.std.proofs.lemmas.Result.{err_from_is_err_and}
 use Rattle.std.proofs.lemmas.Int.{to_z_pos}
 use Rattle.tower.proofs.Taken.{answer_refused, answer_taken, changed}

@@ -1,4 +1,4 @@
-use Rattle.std.proofs.Common.{◌≡◌, sym, ◌∙◌, arith}
+use Rattle.std.proofs.Common.{sym, arith}
 use Rattle.tower.proofs.Wrong.{none_wrong, right_whole}
 use Rattle.tower.proofs.checks.check_map.Goals as goal
 

@@ -1,4 +1,4 @@
-use Rattle.std.proofs.Common.{◌≡◌, ◌<◌, ◌≤◌, Some, sym, ap, ◌∙◌, ⊎_elim, arith}
+use Rattle.std.proofs.Common.{Some, sym, ap, ◌∙◌, arith}
 use Rattle.std.proofs.lemmas.Result.{err_from_is_err_and}
 use Rattle.tower.proofs.Order.{window_levels, window_number, window_level, window_off, window_room, window_taken, on_true, both_on, few_places}
 use Rattle.tower.proofs.checks.check_window.Goals as goal

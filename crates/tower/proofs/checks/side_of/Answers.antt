@@ -1,4 +1,4 @@
-use Rattle.std.proofs.Common.{◌≡◌, ◌<◌, ◌≤◌, arith}
+use Rattle.std.proofs.Common.{arith}
 use Rattle.levels.proofs.Sizes.{power_pos, power_most}
 use Rattle.tower.proofs.checks.side_of.Goals as goal
 

@@ -1,8 +1,7 @@
-use Rattle.std.proofs.Common.{◌≡◌, ◌<◌, ◌≤◌, get_or, pos, sym, refl, ap, ◌∙◌, arith, w32}
+use Rattle.std.proofs.Common.{◌≤◌, get_or, pos, sym, ◌∙◌, arith, w32}
 use borrow.Author.Differences.{ints}
 use Rattle.std.proofs.lemmas.Int.{to_z_pos}
 use Rattle.pairs.specs.Pairs.{Height}
-use Rattle.levels.specs.Maps.{Map, with_height}
 use Rattle.tower.specs.declared.runs.Change.{Change}
 use Rattle.tower.proofs.Replay.{each_taken, taken_place, made_step, made_none}
 use Rattle.tower.proofs.runs.change_all.Goals as goal

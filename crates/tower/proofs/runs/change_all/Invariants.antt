@@ -1,6 +1,6 @@
 use Rattle.levels.specs.Maps.{Map}
 use Rattle.levels.specs.Numbering.{Holds}
-use Rattle.std.proofs.Common.{◌≡◌, ◌*◌, length, drop}
+use Rattle.std.proofs.Common.{◌≡◌, drop}
 use Rattle.tower.specs.Runs.{made_all}
 use Rattle.tower.proofs.runs.change_all.Given as goal
 

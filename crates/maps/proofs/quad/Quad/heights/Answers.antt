@@ -1,4 +1,3 @@
-use Rattle.std.proofs.Common.{◌≡◌}
 use Rattle.pairs.specs.Pairs.{mean_of}
 use Rattle.pairs.proofs.Half.{mean_height}
 use Rattle.pairs.proofs.Exact.{read_height}
