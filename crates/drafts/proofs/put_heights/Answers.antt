@@ -11,8 +11,8 @@ use Rattle.drafts.proofs.put_heights.Goals as goal
 pub returns-then-i-many : goal.returns-then-i-many
 returns-then-i-many c = told_wrong _ _ _ (sym c.loop-i.invariant.1 ∙ wrong_many c.args.row.now c.args.many c.loop-i.i (omega arith) (omega arith))
 
-pub returns-in_err-push : goal.returns-in_err-push
-returns-in_err-push c = let p = err_from_is_err_and c.from_residual.result c.from_residual.ensures.1 in rw p.1 tt
+pub returns-in_err-push-in-Some : goal.returns-in_err-push-in-Some
+returns-in_err-push-in-Some c = let p = err_from_is_err_and c.from_residual.result c.from_residual.ensures.1 in rw p.1 tt
 
 pub returns-in-None : goal.returns-in-None
 returns-in-None c =
@@ -25,7 +25,7 @@ loop-i-preserved c =
     let f : SFits w64 (line c.args.row.now c.loop-i.i) = search rules in
     let g : SFits w32 c.in-Some.height = search rules in
     let h = rw (to_z-of_z w64 (line c.args.row.now c.loop-i.i) f) at c.in-Some.ensures in
-    let put = rw (to_z-of_z w32 c.in-Some.height g) at (chosen _ _ _ _ c.push.ensures.items (ap is_ok c.in_ok-push.was)) in (
+    let put = rw (to_z-of_z w32 c.in-Some.height g) at (chosen _ _ _ _ c.push.ensures.items (ap is_ok c.in_ok-push-in-Some.was)) in (
       omega arith,
       sym (wrong_step c.args.row.now c.args.many c.loop-i.i (omega arith) (omega arith) h.1) ∙ c.loop-i.invariant.1,
       heights_more _ _ _ c.args.row.now c.loop-i.i c.in-Some.height (omega arith) h.0 c.loop-i.invariant.2 put,

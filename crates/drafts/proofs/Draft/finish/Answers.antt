@@ -15,7 +15,7 @@ new-requires c =
 
 pub returns-in-Ok-build : goal.returns-in-Ok-build
 returns-in-Ok-build c = λ g o.
-    finish_taken o (c.in-Ok.ensures.tells g o) _ _ _ c.deref.ensures.value _ (c.deref-mut.ensures.len ∙ c.in_ok-tower.ensures.len) _ c.new.ensures.0 c.new.ensures.1.0 (ap vec_items c.new.ensures.1.1 ∙ with_items_is c.in_ok-tower.tower _ (c.build.auto.room ∙ c.deref-mut.ensures.len)) c.in-Ok-build.ensures
+    finish_taken o (c.in-Ok.ensures.tells g o) _ _ _ c.deref.ensures.value _ (c.deref_mut.ensures.len ∙ c.in_ok-tower.ensures.len) _ c.new.ensures.0 c.new.ensures.1.0 (ap vec_items c.new.ensures.1.1 ∙ with_items_is c.in_ok-tower.tower _ (c.build.auto.room ∙ c.deref_mut.ensures.len)) c.in-Ok-build.ensures
 
 pub returns : goal.returns
-returns c = λ g o. finish_refused o (c.in-Ok.ensures.tells g o) _ _ _ c.deref.ensures.value _ (c.deref-mut.ensures.len ∙ c.in_ok-tower.ensures.len) _ c.in-Err-build.ensures
+returns c = λ g o. finish_refused o (c.in-Ok.ensures.tells g o) _ _ _ c.deref.ensures.value _ (c.deref_mut.ensures.len ∙ c.in_ok-tower.ensures.len) _ c.in-Err-build.ensures

@@ -5,7 +5,7 @@ use Rattle.viewer.proofs.Viewer.set_height.Goals as goal
 
 pub returns-in_ok-write_refusal : goal.returns-in_ok-write_refusal
 returns-in_ok-write_refusal c =
-    λ o s. height_refused s _ refl refl _ _ c.deref-mut.ensures.value (with_items_is c.args.self.now.tower _ (c.change.auto.tower ∙ c.deref-mut.ensures.len)) _ _ _ _ _ _ c.in-Err.ensures c.in_ok-write_refusal.ensures
+    λ o s. height_refused s _ refl refl _ _ c.deref_mut.ensures.value (with_items_is c.args.self.now.tower _ (c.change.auto.tower ∙ c.deref_mut.ensures.len)) _ _ _ _ _ _ c.in-Err.ensures c.in_ok-write_refusal.ensures
 
 pub returns-in_default : goal.returns-in_default
-returns-in_default c = λ o s. height_set s _ refl refl _ _ c.deref-mut.ensures.value (with_items_is c.args.self.now.tower _ (c.change.auto.tower ∙ c.deref-mut.ensures.len)) _ _ _ _ c.in_default.ensures
+returns-in_default c = λ o s. height_set s _ refl refl _ _ c.deref_mut.ensures.value (with_items_is c.args.self.now.tower _ (c.change.auto.tower ∙ c.deref_mut.ensures.len)) _ _ _ _ c.in_default.ensures
