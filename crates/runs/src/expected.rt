@@ -38,10 +38,10 @@ fn request_of(heap: Global, words: &[&[u8]]) -> Result<Option<Request>, Failure>
 
 fn request_named(name: &[u8], numbers: &[u64]) -> Option<Request> {
     match numbers {
-        [] if name == b"tower" => Some(Request::Tower),
+        [] if name == b"tower".as_slice() => Some(Request::Tower),
         [n] => request_of_one(name, *n),
-        [x, y, height] if name == b"set" => Some(Request::Set(*x, *y, *height)),
-        [x, y, wide, high] if name == b"window" => Some(Request::Window(Part {
+        [x, y, height] if name == b"set".as_slice() => Some(Request::Set(*x, *y, *height)),
+        [x, y, wide, high] if name == b"window".as_slice() => Some(Request::Window(Part {
             x: *x,
             y: *y,
             wide: *wide,
@@ -52,11 +52,11 @@ fn request_named(name: &[u8], numbers: &[u64]) -> Option<Request> {
 }
 
 fn request_of_one(name: &[u8], number: u64) -> Option<Request> {
-    if name == b"map" {
+    if name == b"map".as_slice() {
         Some(Request::Map(number))
-    } else if name == b"level" {
+    } else if name == b"level".as_slice() {
         Some(Request::Level(number))
-    } else if name == b"coarse" {
+    } else if name == b"coarse".as_slice() {
         Some(Request::Coarse(number))
     } else {
         None
