@@ -1,12 +1,12 @@
 -- Rows given one after the other: what is wrong with them, and what is kept of them. Assumes nothing.
-use Rattle.std.proofs.Common.{◌≡◌, ℕ, zero, suc, ◌+◌, ◌-◌, ◌*◌, ◌<◌, ◌≤◌, Bool, true, false, cond, List, [], ◌∷◌, ◌++◌, length, get_or, take, drop, ℤ, pos, is_some, Some, None, Option, sym, refl, ap, ◌∙◌, append_assoc, append-nil, arith}
+use Rattle.std.proofs.Common.{◌≡◌, ℕ, zero, suc, ◌+◌, ◌-◌, ◌*◌, ◌<◌, ◌≤◌, Bool, true, false, cond, List, [], ◌∷◌, ◌++◌, length, get_or, take, ℤ, pos, is_some, Some, None, Option, sym, refl, ap, ◌∙◌, append_assoc, arith}
 use Rattle.std.specs.Option.{option_map}
 use Rattle.std.specs.List.{flat_map}
 use Rattle.std.proofs.lemmas.Bool.{true≢false}
 use Rattle.std.proofs.lemmas.List.{take_more, length-append}
 use Rattle.tower.specs.Checks.{is_height, first_wrong}
 use Rattle.drafts.specs.Given.{or_else, rows_wrong}
-use Rattle.drafts.specs.Drafts.{wrong_so_far, Kept}
+use Rattle.drafts.specs.Drafts.{wrong_so_far}
 
 -- something is not nothing
 pub some_none : {X : Type 0} (x : X) (P : Type 0) → ◌≡◌ {A = Option X} (Some x) None → P

@@ -1,7 +1,6 @@
 -- What a draft stands for after a row, and when the rows have ended. Assumes nothing.
 use Rattle.std.proofs.Common.{◌≡◌, ℕ, ◌+◌, ◌*◌, ◌<◌, ◌≤◌, List, [], ◌∷◌, ◌++◌, length, ℤ, Some, None, Ok, Err, vec_items, vec_len, Option, sym, refl, ap, ◌∙◌, ⊎_elim, mul-le-mul_right, mul-le-mul, arith, le-ltb, lt-ltb, eq-eqb}
 use Rattle.std.specs.Option.{option_map}
-use Rattle.std.specs.List.{flat_map}
 use Rattle.std.proofs.lemmas.List.{flat_map_more}
 use Rattle.std.proofs.str.Laws.{order}
 use Rattle.levels.specs.Maps.{power}
@@ -16,7 +15,7 @@ use Rattle.viewer.specs.Shows.{Shows}
 use Rattle.viewer.proofs.Answering.{refused_by, taken_by}
 use Rattle.drafts.specs.declared.Draft.{Draft}
 use Rattle.drafts.specs.Given.{Given, or_else, no_rows, with_row, rows_wrong, map_refusal, map_given}
-use Rattle.drafts.specs.Drafts.{wrong_so_far, Kept, Drafts, Whole}
+use Rattle.drafts.specs.Drafts.{wrong_so_far, Drafts, Whole}
 use Rattle.drafts.proofs.Rows.{some_none, counted_on, rows_right, row_more, row_past, still_wrong}
 
 -- a side of at most 128 has a square of at most 16,384

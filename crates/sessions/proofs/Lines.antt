@@ -1,5 +1,5 @@
 -- Lines taken one after the other. Assumes nothing.
-use Rattle.std.proofs.Common.{◌≡◌, ℕ, List, [], ◌∷◌, ◌++◌, sym, refl, ap, ◌∙◌, append_assoc, append-nil}
+use Rattle.std.proofs.Common.{◌≡◌, ℕ, List, [], ◌∷◌, ◌++◌, sym, refl, ◌∙◌, append_assoc, append-nil}
 use Rattle.texts.specs.Words.{lines}
 use Rattle.sessions.specs.declared.Session.{Session}
 use Rattle.sessions.specs.Runs.{State, taken, taken_text, after, said}

@@ -1,9 +1,9 @@
 -- A text in pieces that end with their lines. Assumes nothing.
-use Rattle.std.proofs.Common.{◌≡◌, ℕ, Bool, true, false, cond, List, [], ◌∷◌, ◌++◌, sym, refl, ap, ◌∙◌, append_assoc}
+use Rattle.std.proofs.Common.{◌≡◌, ℕ, Bool, true, false, cond, List, [], ◌∷◌, ◌++◌, sym, refl, append_assoc}
 use Rattle.texts.specs.Words.{is_end, pieces, but_last_empty, lines}
 use Rattle.texts.proofs.Pieces.{kept_before}
 use Rattle.sessions.specs.Runs.{State, taken, taken_text, after, said}
-use Rattle.sessions.specs.Laws.{InPieces, RunsInPieces}
+use Rattle.sessions.specs.Laws.{RunsInPieces}
 
 after_both : (s : State) (ls ms : List (List ℕ)) → after s (ls ++ ms) ≡ after (after s ls) ms
 unfolding after

@@ -2,7 +2,7 @@
 --     command             the command of a line, or none where it cannot be read
 --     is_row              a line is a row of a map: its first word begins with a digit or a minus sign
 --     row                 the numbers of a row, or none where one of its words is no number
-use Rattle.std.specs.Prelude.{ℕ, Bool, true, false, cond, ◌||◌, List, [], ◌∷◌, ℤ, Some, None, codes, Option, ◌==◌, slice_index}
+use Rattle.std.specs.Prelude.{ℕ, Bool, false, cond, ◌||◌, List, [], ◌∷◌, ℤ, Some, None, codes, Option, ◌==◌, slice_index}
 use Rattle.std.specs.Char.{is_ascii_digit}
 use Rattle.std.specs.Str.{bytes_eq}
 use Rattle.messages.specs.declared.command.Command.{Command}

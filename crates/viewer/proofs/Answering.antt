@@ -1,13 +1,12 @@
 -- Each command, obeyed or refused: what is written is its answer, and the viewer stands for what comes next. Assumes nothing.
-use Rattle.std.proofs.Common.{◌≡◌, ℕ, ◌+◌, ◌-◌, ◌*◌, ◌^◌, ◌<◌, ◌≤◌, min, Bool, true, false, ◌&&◌, ltb, List, [], ◌∷◌, ◌++◌, map, length, get_or, take, drop, ℤ, pos, IfOk, Some, None, Ok, Err, vec_items, vec_len, Option, Result, sym, refl, ap, ◌∙◌, ⊎_elim, append-nil, zero-add, arith, le-ltb, lt-ltb}
+use Rattle.std.proofs.Common.{◌≡◌, ℕ, ◌+◌, ◌-◌, ◌*◌, ◌^◌, ◌<◌, ◌≤◌, min, Bool, true, false, ◌&&◌, ltb, List, [], ◌++◌, map, length, get_or, take, drop, ℤ, pos, IfOk, Some, None, Ok, Err, vec_items, vec_len, Option, Result, sym, refl, ap, ◌∙◌, ⊎_elim, append-nil, zero-add, arith, le-ltb, lt-ltb}
 use Rattle.std.specs.List.{range_with_len, flat_map}
 use Rattle.std.proofs.lemmas.List.FromFn.{length-map-range_with_len, get_or-map-range_with_len, fill_by_all}
 use Rattle.std.proofs.lemmas.List.{length-take-le}
 use Rattle.std.proofs.lemmas.Result.{IfOk-weaker}
 use Rattle.std.proofs.str.Laws.{order}
-use Rattle.levels.specs.Maps.{Map, power, with_height}
-use Rattle.levels.specs.Numbering.{Holds}
-use Rattle.levels.specs.Listing.{rows_at, tower_list}
+use Rattle.levels.specs.Maps.{Map, power}
+use Rattle.levels.specs.Listing.{rows_at}
 use Rattle.levels.proofs.Sizes.{power_most}
 use Rattle.levels.proofs.Listing.{listed_tower_lem, part_cut}
 use Rattle.refusals.specs.declared.Refusal.{Refusal}

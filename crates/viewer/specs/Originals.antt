@@ -2,7 +2,7 @@
 --     Original            a map as it was given and changed, and the level that is looked at
 --     seen                the map halved so often
 --     answer, next        what a command answers, and the map and level after it
-use Rattle.std.specs.Prelude.{ℕ, ◌-◌, ◌*◌, Bool, cond, List, [], ◌∷◌, ℤ, pos, Some, None, Option, nat_lt}
+use Rattle.std.specs.Prelude.{ℕ, ◌-◌, ◌*◌, List, [], ◌∷◌, ℤ, pos, Some, None, Option, nat_lt}
 use Rattle.levels.specs.Maps as Maps
 use Rattle.levels.specs.Maps.{power, with_height}
 use Rattle.levels.specs.Listing.{rows_at, tower_list}

@@ -1,5 +1,4 @@
-use Rattle.std.proofs.Common.{Some, sym, refl, ap, ◌∙◌}
-use Rattle.drafts.specs.Given.{or_else}
+use Rattle.std.proofs.Common.{sym, refl}
 use Rattle.drafts.proofs.Rows.{none_from, some_from}
 use Rattle.drafts.proofs.Standing.{marked}
 use Rattle.drafts.proofs.Draft.mark_unreadable.Goals as goal

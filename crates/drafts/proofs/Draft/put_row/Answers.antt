@@ -1,4 +1,4 @@
-use Rattle.std.proofs.Common.{sym, refl, ap, ◌∙◌, arith, rules}
+use Rattle.std.proofs.Common.{sym, refl, ◌∙◌, rules}
 use Rattle.drafts.proofs.Rows.{none_from, some_from, wrong_within}
 use Rattle.drafts.proofs.Standing.{few, too_large, wrong_before, row_beyond, row_wrong, row_kept}
 use Rattle.drafts.proofs.Draft.put_row.Goals as goal

@@ -1,5 +1,4 @@
-use Rattle.std.proofs.Common.{◌≡◌, ◌++◌, length, string_bytes}
-use Rattle.sessions.specs.Runs.{State}
+use Rattle.std.proofs.Common.{length, string_bytes}
 use Rattle.sessions.proofs.Lines.{Sofar}
 use Rattle.sessions.proofs.Session.run.Given as goal
 

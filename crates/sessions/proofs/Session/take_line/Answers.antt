@@ -1,4 +1,4 @@
-use Rattle.std.proofs.Common.{sym, refl}
+use Rattle.std.proofs.Common.{refl}
 use Rattle.sessions.proofs.Standing.{one_more, row_taken, other_taken}
 use Rattle.sessions.proofs.Session.take_line.Goals as goal
 

@@ -1,4 +1,3 @@
-use Rattle.std.proofs.Common.{◌≡◌, sym, ap, ◌∙◌, append_assoc, append-nil}
 use Rattle.sessions.specs.Runs.{session_text}
 use Rattle.sessions.proofs.steps.run_text.Goals as goal
 
