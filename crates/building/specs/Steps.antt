@@ -1,8 +1,8 @@
 -- What a step across and a step down leave of a map. Assumes nothing: these are definitions.
---     BeginsWith         a list begins with a map, row by row
---     BeginsParted       the same with its even rows first and then its odd ones
---     RowsHalved         the first n rows of a map halved
---     ColumnsHalved      the first n numbers halved with those that stand so many further on
+--     BeginsWith          a list begins with a map, row by row
+--     BeginsParted        the same with its even rows first and then its odd ones
+--     RowsHalved          the first n rows of a map halved
+--     ColumnsHalved       the first n numbers halved with those that stand so many further on
 --     Copied              numbers from an index on, copied up to another
 use Rattle.std.specs.Prelude.{◌≡◌, ℕ, ◌+◌, ◌*◌, ◌/◌, ◌<◌, ◌≤◌, List, ℤ}
 use Rattle.pairs.specs.Pairs.{mean_of, difference_of}

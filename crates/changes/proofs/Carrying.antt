@@ -1,7 +1,7 @@
 -- A change carried through one level: what the numbers are then. Assumes nothing.
 use Rattle.std.proofs.Common.{◌≡◌, ℕ, suc, ◌+◌, ◌*◌, ◌/◌, ◌%◌, ◌^◌, ◌<◌, ◌≤◌, ◌&&◌, eqb, ◌≢◌, List, length, get_or, set, ℤ, pos, ◌+ℤ◌, sym, refl, ap, ◌∙◌, ⊎_elim, arith, w32, SFits, to_z, of_z}
 use borrow.Author.Differences.{ints}
-use Rattle.std.specs.List.{ContainsAt as Has}
+use Rattle.std.specs.List.{ContainsAt}
 use Rattle.std.specs.Int.{int_wrap}
 use Rattle.std.proofs.lemmas.List.{get_or-set_same, get_or-set_other}
 use Rattle.std.proofs.lemmas.Int.{to_z-of_z, int_wrap_fits, wrapping_add-bits}
@@ -27,8 +27,8 @@ rows_changed : (n from a b : ℕ) (ts us : List ℤ) (p q : Map) (whole : Type 0
 rows_changed n from a b ts us p q whole inside off same here u v hu there e =
     let other : (u ≡ a → v ≡ b → ⊥) → get_or us (from + (v * n + u)) (pos 0) ≡ q u v = λ ne.
     same (from + (v * n + u)) (λ o f. let s = row_same n v u b a hu (inside o) (omega arith) in ne s.1 s.0) ∙ e ∙ sym (off u v ne) in
-    let same-one : u ≡ a → v ≡ b → get_or us (from + (v * n + u)) (pos 0) ≡ q u v = λ eu ev. rw (eu, ev) (here (there eu ev)) in
-    ⊎_elim (λ eu. ⊎_elim (same-one eu) (λ ne. other (λ _ ev. ne ev)) (cases_eq v b)) (λ ne. other (λ eu _. ne eu)) (cases_eq u a)
+    let same_one : u ≡ a → v ≡ b → get_or us (from + (v * n + u)) (pos 0) ≡ q u v = λ eu ev. rw (eu, ev) (here (there eu ev)) in
+    ⊎_elim (λ eu. ⊎_elim (same_one eu) (λ ne. other (λ _ ev. ne ev)) (cases_eq v b)) (λ ne. other (λ eu _. ne eu)) (cases_eq u a)
 
 -- the differences down stand before those across, and both behind the coarser levels
 downs_before : (w h u v : ℕ) → u < (w + 1) / 2 → 2 * v + 1 < h → down_index w h 0 u v < (w + 1) / 2 * h
@@ -53,10 +53,10 @@ module _ (w h : ℕ) (p : Map) (x y : ℕ) (by : ℤ) where
 
 -- ts are the numbers before, us with the difference across changed, vs with that down too, zs with the coarser levels too
 module _ (k w h x y i j : ℕ) (ts us vs zs : List ℤ) (hx : x < w) (hy : y < h) (ei : i ≡ across_index w h 0 (x / 2) y) (ej : j ≡ down_index w h 0 (x / 2) (y / 2))
-    (same-u : SameBut (2 * (x / 2) + 1 < w) i ts us) (same-v : SameBut (2 * (y / 2) + 1 < h) j us vs)
-    (same-z : (m : ℕ) → (Has (touched k ((w + 1) / 2) ((h + 1) / 2) (x / 2) (y / 2)) m → ⊥) → get_or zs m (pos 0) ≡ get_or vs m (pos 0)) where
-  pub rest_kept : (m : ℕ) → (Has (touched (suc k) w h x y) m → ⊥) → get_or zs m (pos 0) ≡ get_or ts m (pos 0)
-  rest_kept m n = same-z m (λ t. n (has_coarser k w h x y m t)) ∙ same-v m (λ whole e. n (rw (e, ej) (has_down_0 k w h x y whole))) ∙ same-u m (λ whole e. n (rw (e, ei) (has_across_0 k w h x y whole)))
+    (same_u : SameBut (2 * (x / 2) + 1 < w) i ts us) (same_v : SameBut (2 * (y / 2) + 1 < h) j us vs)
+    (same_z : (m : ℕ) → (ContainsAt (touched k ((w + 1) / 2) ((h + 1) / 2) (x / 2) (y / 2)) m → ⊥) → get_or zs m (pos 0) ≡ get_or vs m (pos 0)) where
+  pub rest_kept : (m : ℕ) → (ContainsAt (touched (suc k) w h x y) m → ⊥) → get_or zs m (pos 0) ≡ get_or ts m (pos 0)
+  rest_kept m n = same_z m (λ t. n (has_coarser k w h x y m t)) ∙ same_v m (λ whole e. n (rw (e, ej) (has_down_0 k w h x y whole))) ∙ same_u m (λ whole e. n (rw (e, ei) (has_across_0 k w h x y whole)))
 
   i_behind : (w + 1) / 2 * h ≤ i
   unfolding across_index size
@@ -70,14 +70,14 @@ module _ (k w h x y i j : ℕ) (ts us vs zs : List ℤ) (hx : x < w) (hy : y < h
   j_before whole = rw ej (downs_before w h (x / 2) (y / 2) (omega arith) whole)
 
   coarser_kept : (m : ℕ) → m < (w + 1) / 2 * ((h + 1) / 2) → get_or vs m (pos 0) ≡ get_or ts m (pos 0)
-  coarser_kept m hm = same-v m (λ _ e. omega (arith, j_behind)) ∙ same-u m (λ _ e. omega (arith, i_behind, acrosses_past ((w + 1) / 2) h))
+  coarser_kept m hm = same_v m (λ _ e. omega (arith, j_behind)) ∙ same_u m (λ _ e. omega (arith, i_behind, acrosses_past ((w + 1) / 2) h))
 
   finest_kept : (m : ℕ) → (w + 1) / 2 * ((h + 1) / 2) ≤ m → get_or zs m (pos 0) ≡ get_or vs m (pos 0)
-  finest_kept m hm = same-z m (λ t. omega (arith, touched_within k ((w + 1) / 2) ((h + 1) / 2) (x / 2) (y / 2) m (omega arith) (omega arith) t))
+  finest_kept m hm = same_z m (λ t. omega (arith, touched_within k ((w + 1) / 2) ((h + 1) / 2) (x / 2) (y / 2) m (omega arith) (omega arith) t))
 
   -- the change across leaves the difference down as it was
   pub column_still : (f : ℕ → ℤ) → DifferenceAt h f y ts j → DifferenceAt h f y us j
-  column_still f d whole = same-u j (λ _ e. omega (arith, j_before whole, i_behind)) ∙ d whole
+  column_still f d whole = same_u j (λ _ e. omega (arith, j_before whole, i_behind)) ∙ d whole
 
   module _ (p : Map) (by mb : ℤ) (o : Holds (suc k) w h ts p) (hq : Height (p x y +ℤ by))
       (row : DifferenceAt w (λ u. with_height p x y (p x y +ℤ by) u y) x us i) (column : DifferenceAt h (means w (with_height p x y (p x y +ℤ by)) (x / 2)) y vs j)
@@ -89,17 +89,17 @@ module _ (k w h x y i j : ℕ) (ts us vs zs : List ℤ) (hx : x < w) (hy : y < h
     acrosses_new : (u v : ℕ) → u < w / 2 → v < h → get_or zs ((w + 1) / 2 * h + (v * (w / 2) + u)) (pos 0) ≡ across q u v
     unfolding across across_index size
     acrosses_new u v hu hv =
-        finest_kept _ (omega (arith, acrosses_past ((w + 1) / 2) h)) ∙ same-v _ (λ whole e. omega (arith, j_before whole))
+        finest_kept _ (omega (arith, acrosses_past ((w + 1) / 2) h)) ∙ same_v _ (λ whole e. omega (arith, j_before whole))
         ∙ rows_changed (w / 2) ((w + 1) / 2 * h) (x / 2) y ts us (across p) (across q) (2 * (x / 2) + 1 < w) (λ whole. omega arith) (across_off w h q p x y (with_off p x y (p x y +ℤ by)))
-        (rw ei at same-u) (rw ei at row) u v hu (λ eu ev. omega arith) (across_there k w h ts p o u v (omega arith) hv)
+        (rw ei at same_u) (rw ei at row) u v hu (λ eu ev. omega arith) (across_there k w h ts p o u v (omega arith) hv)
 
     downs_new : (u v : ℕ) → u < (w + 1) / 2 → v < h / 2 → get_or zs ((w + 1) / 2 * ((h + 1) / 2) + (v * ((w + 1) / 2) + u)) (pos 0) ≡ down w q u v
     unfolding down down_index size
     downs_new u v hu hv =
         finest_kept _ (omega arith)
         ∙ rows_changed ((w + 1) / 2) ((w + 1) / 2 * ((h + 1) / 2)) (x / 2) (y / 2) us vs (down w p) (down w q) (2 * (y / 2) + 1 < h) (λ whole. omega arith) (down_off w h q p x y (with_off p x y (p x y +ℤ by)))
-        (rw ej at same-v) (rw ej at column) u v hu (λ eu ev. omega arith)
-        (same-u _ (λ _ e. omega (arith, downs_before w h u v hu (omega arith), i_behind)) ∙ down_there k w h ts p o u v hu (omega arith))
+        (rw ej at same_v) (rw ej at column) u v hu (λ eu ev. omega arith)
+        (same_u _ (λ _ e. omega (arith, downs_before w h u v hu (omega arith), i_behind)) ∙ down_there k w h ts p o u v hu (omega arith))
 
     pub level_carried : Holds (suc k) w h zs q
     level_carried =

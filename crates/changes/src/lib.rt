@@ -2,7 +2,7 @@
 #![tactic(auto)]
 
 ghost use Rattle.std.specs.Prelude.{◌≡◌, ℕ, ◌+◌, ◌*◌, ◌/◌, ◌<◌, ◌≤◌, List, length, ℤ, pos, ◌+ℤ◌, ◌-ℤ◌, ◌≢◌, slice_index_or};
-ghost use Rattle.std.specs.List.{ContainsAt as Has};
+ghost use Rattle.std.specs.List.{ContainsAt};
 ghost use Rattle.pairs.specs.Pairs.{Difference, half, Height};
 ghost use Rattle.levels.specs.Maps.{line_up, Map, size, with_height};
 ghost use Rattle.levels.specs.Numbering.{Holds, touched};
@@ -84,7 +84,7 @@ pub fn change(tower: &mut [i32], wide: usize, high: usize, x: usize, y: usize, h
     requires place { (x < wide) × (y < high) }
     requires room { wide * high ≤ length tower.old }
     ensures holds { (k : ℕ) (p : Map) → Holds k wide high tower.old p → Height height → Holds k wide high tower.new (with_height p x y height) }
-    ensures rest { (k i : ℕ) → size k wide ≡ 1 → size k high ≡ 1 → (Has (touched k wide high x y) i → ⊥) → slice_index_or tower.new i (pos 0) ≡ slice_index_or tower.old i (pos 0) }
+    ensures rest { (k i : ℕ) → size k wide ≡ 1 → size k high ≡ 1 → (ContainsAt (touched k wide high x y) i → ⊥) → slice_index_or tower.new i (pos 0) ≡ slice_index_or tower.old i (pos 0) }
 {
     let by = height.wrapping_sub(height_at(tower, wide, high, x, y));
     carry(tower, wide, high, x, y, by)

@@ -112,33 +112,33 @@ module _ {d : Draft} {g : Given} (o : Drafts d g) where
   levels_refused large = rw o.k (rw (lt-ltb 7 g.k (omega (arith, o.k))))
 
   module _ (small : d.k ≤ max_k) where
-    small-given : g.k ≤ max_k
-    small-given = omega (arith, o.k)
+    small_given : g.k ≤ max_k
+    small_given = omega (arith, o.k)
 
     pub line_refused : (line : ℕ) → d.unreadable ≡ Some line → map_refusal g ≡ Some (Unreadable line)
     unfolding map_refusal
-    line_refused line e = rw (le-ltb 7 g.k small-given, sym (o.unreadable small-given) ∙ e)
+    line_refused line e = rw (le-ltb 7 g.k small_given, sym (o.unreadable small_given) ∙ e)
 
     module _ (none : d.unreadable ≡ None) where
       readable : g.unreadable ≡ None
-      readable = sym (o.unreadable small-given) ∙ none
+      readable = sym (o.unreadable small_given) ∙ none
 
       pub place_refused : (place : ℕ) → d.wrong ≡ Some place → map_refusal g ≡ Some (WrongNumber place)
       unfolding map_refusal
       place_refused place e =
-          rw (le-ltb 7 g.k small-given, readable, (still_wrong (power g.k) (power g.k) 0 place g.rows [] (sym (o.kept small-given readable).first ∙ e)).1)
+          rw (le-ltb 7 g.k small_given, readable, (still_wrong (power g.k) (power g.k) 0 place g.rows [] (sym (o.kept small_given readable).first ∙ e)).1)
 
       pub rows_whole : (side : ℕ) → SideOf d.k side → d.wrong ≡ None → Whole g (vec_items d.heights) side
       unfolding map_refusal build_refusal places
       rows_whole side s e =
-          let kept = o.kept small-given readable in
+          let kept = o.kept small_given readable in
           let all = kept.all e in
           let side_is : side ≡ power g.k = s.value ∙ ap power o.k in
           let right : wrong_so_far side side 0 g.rows ≡ None = rw side_is (sym kept.first ∙ e) in
           let told : rows_wrong (power g.k) (power g.k) 0 g.rows ≡ first_wrong (power g.k * power g.k) 0 (vec_items d.heights) = rw all (rw side_is at (rows_right side s.some side 0 g.rows right).2) in
           record {
             side_of = rw o.k at s;
-            refusal = rw (le-ltb 7 g.k small-given, readable, told, eq-eqb (power g.k * power g.k) (power g.k * power g.k) refl);
+            refusal = rw (le-ltb 7 g.k small_given, readable, told, eq-eqb (power g.k * power g.k) (power g.k * power g.k) refl);
             all = all;
           }
 

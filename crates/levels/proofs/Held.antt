@@ -132,17 +132,17 @@ module _ (t s : Tower) where
   one_down e zero x y lk hx hy = let ex : x ≡ 0 = omega arith in let ey : y ≡ 0 = omega arith in rw (ex, ey) e
   one_down e (suc l) x y lk hx hy = absurd (omega arith)
 
-  two-across : t.acrosses 0 0 0 ≡ s.acrosses 0 0 0 → t.acrosses 0 0 1 ≡ s.acrosses 0 0 1 → (l x y : ℕ) → l < 1 → x < size l 2 / 2 → y < size l 2 → t.acrosses l x y ≡ s.acrosses l x y
+  two_across : t.acrosses 0 0 0 ≡ s.acrosses 0 0 0 → t.acrosses 0 0 1 ≡ s.acrosses 0 0 1 → (l x y : ℕ) → l < 1 → x < size l 2 / 2 → y < size l 2 → t.acrosses l x y ≡ s.acrosses l x y
   unfolding size
-  two-across e f zero x zero lk hx hy = let ex : x ≡ 0 = omega arith in rw ex e
-  two-across e f zero x (suc zero) lk hx hy = let ex : x ≡ 0 = omega arith in rw ex f
-  two-across e f zero x (suc (suc y)) lk hx hy = absurd (omega arith)
-  two-across e f (suc l) x zero lk hx hy = absurd (omega arith)
-  two-across e f (suc l) x (suc zero) lk hx hy = absurd (omega arith)
-  two-across e f (suc l) x (suc (suc y)) lk hx hy = absurd (omega arith)
+  two_across e f zero x zero lk hx hy = let ex : x ≡ 0 = omega arith in rw ex e
+  two_across e f zero x (suc zero) lk hx hy = let ex : x ≡ 0 = omega arith in rw ex f
+  two_across e f zero x (suc (suc y)) lk hx hy = absurd (omega arith)
+  two_across e f (suc l) x zero lk hx hy = absurd (omega arith)
+  two_across e f (suc l) x (suc zero) lk hx hy = absurd (omega arith)
+  two_across e f (suc l) x (suc (suc y)) lk hx hy = absurd (omega arith)
 
-  pub two-by-two : t.top ≡ s.top → t.downs 0 0 0 ≡ s.downs 0 0 0 → t.acrosses 0 0 0 ≡ s.acrosses 0 0 0 → t.acrosses 0 0 1 ≡ s.acrosses 0 0 1 → SameTower 1 2 2 t s
-  two-by-two e d a b = record { top = e; downs = one_down d; acrosses = two-across a b }
+  pub two_by_two : t.top ≡ s.top → t.downs 0 0 0 ≡ s.downs 0 0 0 → t.acrosses 0 0 0 ≡ s.acrosses 0 0 0 → t.acrosses 0 0 1 ≡ s.acrosses 0 0 1 → SameTower 1 2 2 t s
+  two_by_two e d a b = record { top = e; downs = one_down d; acrosses = two_across a b }
 
 -- the same numbers hold the tower of each level
 pub level_held : (l k w h : ℕ) (ts : List ℤ) (p : Map) → l ≤ k → Holds k w h ts p → Holds (k - l) (size l w) (size l h) ts (level l w h p)

@@ -4,8 +4,8 @@ use Rattle.pairs.specs.Pairs.{mean_of, difference_of, one_of}
 use Rattle.levels.specs.Maps.{Map, power, size, line_down, apart}
 use Rattle.levels.specs.Maps as Sized
 use Rattle.levels.specs.Towers.{Tower}
-use Rattle.levels.specs.Towers as Sized-towers
-use Rattle.levels.specs.Numbering as Sized-numbers
+use Rattle.levels.specs.Towers as SizedTowers
+use Rattle.levels.specs.Numbering as SizedNumbers
 use Rattle.levels.specs.Numbering.{down_index, across_index}
 use Rattle.levels.specs.Square.{means, across, halved, down, halved_times, joined, tower, shown, at_level, begins, tower_in, SameTower}
 use Rattle.levels.specs.SquareLaws.{BothTheSame}
@@ -64,16 +64,16 @@ down_whole l w h p x y hx hy = ap₂ difference_of (row (2 * y) (omega arith)) (
     row : (v : ℕ) → (v + 1) * power l ≤ h → Sized.means (size l w) (Sized.level l w h p) x v ≡ mean_of (halved_times l p (2 * x) v) (halved_times l p (2 * x + 1) v)
     row v hv = means_whole l w h p x v hx ∙ ap₂ mean_of (level_whole l w h p (2 * x) v (omega arith) hv) (level_whole l w h p (2 * x + 1) v (omega arith) hv)
 
-pub towers_same : (k : ℕ) (p : Map) → SameTower k (Sized-towers.tower k (power k) (power k) p) (tower k p)
-unfolding Sized-towers.tower tower
+pub towers_same : (k : ℕ) (p : Map) → SameTower k (SizedTowers.tower k (power k) (power k) p) (tower k p)
+unfolding SizedTowers.tower tower
 towers_same k p = record {
   top = level_whole k (power k) (power k) p 0 0 (omega arith) (omega arith);
   downs = λ l x y lk hx hy. down_whole l (power k) (power k) p x y (whole k (suc l) x lk hx) (whole k (suc l) y lk hy);
   acrosses = λ l x y lk hx hy. across_whole l (power k) (power k) p x y (whole k (suc l) x lk hx) (whole k l y (omega arith) hy);
 }
 
-pub numbering_same : (k : ℕ) (ts : List ℤ) → SameTower k (Sized-numbers.tower_in (power k) (power k) ts) (tower_in k ts)
-unfolding Sized-numbers.tower_in tower_in down_index across_index begins
+pub numbering_same : (k : ℕ) (ts : List ℤ) → SameTower k (SizedNumbers.tower_in (power k) (power k) ts) (tower_in k ts)
+unfolding SizedNumbers.tower_in tower_in down_index across_index begins
 numbering_same k ts = record {
   top = refl;
   downs = λ l x y lk hx hy. rw (size_power k (suc l) lk);
@@ -82,14 +82,14 @@ numbering_same k ts = record {
       rw (size_power k (suc l) lk, size_twice k l lk, e) (ap (λ (i : ℕ). get_or ts i (pos 0)) (omega arith));
 }
 
-pub to_square : (k : ℕ) (t s : Tower) → Sized-towers.SameTower k (power k) (power k) t s → SameTower k t s
+pub to_square : (k : ℕ) (t s : Tower) → SizedTowers.SameTower k (power k) (power k) t s → SameTower k t s
 to_square k t s o = record {
   top = o.top;
   downs = λ l x y lk hx hy. o.downs l x y lk (rw (size_power k (suc l) lk) hx) (let e = size_twice k l lk in omega arith);
   acrosses = λ l x y lk hx hy. o.acrosses l x y lk (let e = size_twice k l lk in omega arith) (rw (size_power k l (omega arith)) hy);
 }
 
-pub from_square : (k : ℕ) (t s : Tower) → SameTower k t s → Sized-towers.SameTower k (power k) (power k) t s
+pub from_square : (k : ℕ) (t s : Tower) → SameTower k t s → SizedTowers.SameTower k (power k) (power k) t s
 from_square k t s o = record {
   top = o.top;
   downs = λ l x y lk hx hy. o.downs l x y lk (rw (size_power k (suc l) lk) at hx) (let e = size_twice k l lk in omega arith);
@@ -107,18 +107,18 @@ joined_whole : (n m : ℕ) (s r a d : Map) (x y : ℕ) → 2 * (x / 2) + 1 < n �
 unfolding Sized.joined joined
 joined_whole n m s r a d x y hx hy e = rw e (down_pair n x _ _ hx ∙ ap (λ z. one_of x z (a (x / 2) y)) (down_pair m y _ _ hy))
 
-pub shown_whole : (k w h b c : ℕ) (t : Tower) → w ≡ power k * b → h ≡ power k * c → (u x y : ℕ) → u ≤ k → x < power u * b → y < power u * c → Sized-towers.shown k w h t u x y ≡ shown k t u x y
-unfolding Sized-towers.shown shown power
+pub shown_whole : (k w h b c : ℕ) (t : Tower) → w ≡ power k * b → h ≡ power k * c → (u x y : ℕ) → u ≤ k → x < power u * b → y < power u * c → SizedTowers.shown k w h t u x y ≡ shown k t u x y
+unfolding SizedTowers.shown shown power
 shown_whole k w h b c t ew eh zero x y uk hx hy = refl
 shown_whole k w h b c t ew eh (suc u) x y uk hx hy =
     let e : k - (k - suc u) ≡ suc u = omega arith in
     let sw : size (k - suc u) w ≡ power (suc u) * b = size_times k (k - suc u) b w (omega arith) ew ∙ ap (λ (m : ℕ). power m * b) e in
     let sh : size (k - suc u) h ≡ power (suc u) * c = size_times k (k - suc u) c h (omega arith) eh ∙ ap (λ (m : ℕ). power m * c) e in
-    joined_whole (size (k - suc u) w) (size (k - suc u) h) (Sized-towers.shown k w h t u) (shown k t u) (t.acrosses (k - suc u)) (t.downs (k - suc u)) x y (omega arith) (omega arith)
+    joined_whole (size (k - suc u) w) (size (k - suc u) h) (SizedTowers.shown k w h t u) (shown k t u) (t.acrosses (k - suc u)) (t.downs (k - suc u)) x y (omega arith) (omega arith)
     (shown_whole k w h b c t ew eh u (x / 2) (y / 2) (omega arith) (omega arith) (omega arith))
 
-pub shows_same : (k l x y : ℕ) (t : Tower) → l ≤ k → x < power (k - l) → y < power (k - l) → Sized-towers.at_level k (power k) (power k) t l x y ≡ at_level k t l x y
-unfolding Sized-towers.at_level at_level
+pub shows_same : (k l x y : ℕ) (t : Tower) → l ≤ k → x < power (k - l) → y < power (k - l) → SizedTowers.at_level k (power k) (power k) t l x y ≡ at_level k t l x y
+unfolding SizedTowers.at_level at_level
 shows_same k l x y t lk hx hy = shown_whole k (power k) (power k) 1 1 t (omega arith) (omega arith) (k - l) x y (omega arith) (omega arith) (omega arith)
 
 pub both_the_same_lem : BothTheSame

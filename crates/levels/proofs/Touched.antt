@@ -1,6 +1,6 @@
 -- Which numbers of a tower a change of one height touches. Assumes nothing.
 use Rattle.std.proofs.Common.{◌≡◌, ℕ, zero, suc, ◌+◌, ◌*◌, ◌/◌, ◌<◌, ◌≤◌, Bool, true, false, cond, List, [], ◌∷◌, ◌++◌, length, get_or, ℤ, pos, sym, refl, ◌∙◌, div-one, arith, length-append}
-use Rattle.std.specs.List.{ContainsAt as Has}
+use Rattle.std.specs.List.{ContainsAt}
 use Rattle.std.proofs.ByRecursion.{has_get_or, has_append_left, has_append_right}
 use Rattle.std.proofs.lemmas.Bool.{lt-ltb}
 use Rattle.levels.specs.Maps.{Map, power, size, paired, with_height}
@@ -22,7 +22,7 @@ few (suc k) w h x y = simp length-append
     (omega (arith, at_most_one (paired w (x / 2)) (across_index w h 0 (x / 2) y), at_most_one (paired h (y / 2)) (down_index w h 0 (x / 2) (y / 2)), few k ((w + 1) / 2) ((h + 1) / 2) (x / 2) (y / 2)))
 
 -- the one of a list that a test puts there
-has_tested : (b : Bool) (i : ℕ) → b ≡ true → Has (cond b (i ∷ []) []) i
+has_tested : (b : Bool) (i : ℕ) → b ≡ true → ContainsAt (cond b (i ∷ []) []) i
 has_tested true i e = has_get_or (i ∷ []) 0 0 (omega arith)
 has_tested false i e = absurd (let z : ◌≡◌ {A = ℕ} 0 1 = cc in omega arith)
 
@@ -37,19 +37,19 @@ module _ (k w h x y : ℕ) where
   abbrev coarse_part : List ℕ
   coarse_part = touched k ((w + 1) / 2) ((h + 1) / 2) (x / 2) (y / 2)
 
-  pub has_across_0 : 2 * (x / 2) + 1 < w → Has (touched (suc k) w h x y) (across_index w h 0 (x / 2) y)
+  pub has_across_0 : 2 * (x / 2) + 1 < w → ContainsAt (touched (suc k) w h x y) (across_index w h 0 (x / 2) y)
   unfolding touched an_across_part a_down_part
   has_across_0 two = has_append_left an_across_part (a_down_part ++ coarse_part) _ (has_tested (paired w (x / 2)) (across_index w h 0 (x / 2) y) (lt-ltb (2 * (x / 2) + 1) w two))
 
-  pub has_down_0 : 2 * (y / 2) + 1 < h → Has (touched (suc k) w h x y) (down_index w h 0 (x / 2) (y / 2))
+  pub has_down_0 : 2 * (y / 2) + 1 < h → ContainsAt (touched (suc k) w h x y) (down_index w h 0 (x / 2) (y / 2))
   unfolding touched an_across_part a_down_part
   has_down_0 two = has_append_right an_across_part (a_down_part ++ coarse_part) _ (has_append_left a_down_part coarse_part _ (has_tested (paired h (y / 2)) (down_index w h 0 (x / 2) (y / 2)) (lt-ltb (2 * (y / 2) + 1) h two)))
 
-  pub has_coarser : (i : ℕ) → Has (touched k ((w + 1) / 2) ((h + 1) / 2) (x / 2) (y / 2)) i → Has (touched (suc k) w h x y) i
+  pub has_coarser : (i : ℕ) → ContainsAt (touched k ((w + 1) / 2) ((h + 1) / 2) (x / 2) (y / 2)) i → ContainsAt (touched (suc k) w h x y) i
   unfolding touched an_across_part a_down_part
   has_coarser i o = has_append_right an_across_part (a_down_part ++ coarse_part) i (has_append_right a_down_part coarse_part i o)
 
-pub has_top : (k w h x y : ℕ) → Has (touched k w h x y) 0
+pub has_top : (k w h x y : ℕ) → ContainsAt (touched k w h x y) 0
 unfolding touched
 has_top zero w h x y = has_get_or (0 ∷ []) 0 0 (omega arith)
 has_top (suc k) w h x y = has_coarser k w h x y 0 (has_top k ((w + 1) / 2) ((h + 1) / 2) (x / 2) (y / 2))
@@ -63,7 +63,7 @@ across_index_up : (l w h x y : ℕ) → across_index ((w + 1) / 2) ((h + 1) / 2)
 unfolding across_index size
 across_index_up l w h x y = rw (size_inner l w, size_inner l h)
 
-has_down : (l k w h x y : ℕ) → l < k → 2 * (y / power (suc l)) + 1 < size l h → Has (touched k w h x y) (down_index w h l (x / power (suc l)) (y / power (suc l)))
+has_down : (l k w h x y : ℕ) → l < k → 2 * (y / power (suc l)) + 1 < size l h → ContainsAt (touched k w h x y) (down_index w h l (x / power (suc l)) (y / power (suc l)))
 unfolding power size
 has_down l zero w h x y lk two = absurd (omega arith)
 has_down zero (suc k) w h x y lk two = has_down_0 k w h x y two
@@ -73,7 +73,7 @@ has_down (suc l) (suc k) w h x y lk two =
     let r = has_down l k ((w + 1) / 2) ((h + 1) / 2) (x / 2) (y / 2) (omega arith) (rw (ey, size_inner l h) two) in
     has_coarser k w h x y _ (rw (ex, ey, down_index_up l w h (x / power (suc (suc l))) (y / power (suc (suc l)))) at r)
 
-has_across : (l k w h x y : ℕ) → l < k → 2 * (x / power (suc l)) + 1 < size l w → Has (touched k w h x y) (across_index w h l (x / power (suc l)) (y / power l))
+has_across : (l k w h x y : ℕ) → l < k → 2 * (x / power (suc l)) + 1 < size l w → ContainsAt (touched k w h x y) (across_index w h l (x / power (suc l)) (y / power l))
 unfolding power size
 has_across l zero w h x y lk two = absurd (omega arith)
 has_across zero (suc k) w h x y lk two = rw (div-one y) (has_across_0 k w h x y two)
@@ -84,7 +84,7 @@ has_across (suc l) (suc k) w h x y lk two =
     has_coarser k w h x y _ (rw (ex, ey, across_index_up l w h (x / power (suc (suc l))) (y / power (suc l))) at r)
 
 module _ (k w h x y : ℕ) (p : Map) (g : ℤ) (ts us : List ℤ) (s : SameTower k w h (tower_in w h ts) (tower k w h p)) (s' : SameTower k w h (tower_in w h us) (tower k w h (with_height p x y g))) where
-  kept : (e : Entry) → There k w h e → (Has (touched k w h x y) (index w h e) → ⊥) → get_or us (index w h e) (pos 0) ≡ get_or ts (index w h e) (pos 0)
+  kept : (e : Entry) → There k w h e → (ContainsAt (touched k w h x y) (index w h e) → ⊥) → get_or us (index w h e) (pos 0) ≡ get_or ts (index w h e) (pos 0)
   unfolding tower_in tower
   kept the_top o n = absurd (n (has_top k w h x y))
   kept (a_down l u v) o n =

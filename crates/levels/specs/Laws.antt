@@ -1,6 +1,6 @@
 -- The laws of halved maps and their towers, for any width and height. Each is a statement; a function of this crate has it as its contract. Assumes nothing.
 use Rattle.std.specs.Prelude.{◌≡◌, ℕ, zero, suc, ◌+◌, ◌-◌, ◌*◌, ◌/◌, ◌<◌, ◌≤◌, T, List, length, take, ℤ, pos, ◌+ℤ◌, ◌*ℤ◌, ◌≤ℤ◌, ◌≢◌, slice_index_or}
-use Rattle.std.specs.List.{ContainsAt as Has}
+use Rattle.std.specs.List.{ContainsAt}
 use Rattle.levels.specs.Maps.{Map, power, size, paired, across, down, level, with_height}
 use Rattle.levels.specs.Towers.{Tower, tower, at_level, levels, SameTower}
 use Rattle.levels.specs.Numbering.{tower_in, Holds, Entry, index, There, differences, touched}
@@ -49,7 +49,7 @@ NumbersAll = (k w h : ℕ) → size k w ≡ 1 → size k h ≡ 1 → Numbered k 
 pub record FewTouched (k w h x y : ℕ) : Type 0 where
   pub few : length (touched k w h x y) ≤ 1 + 2 * k
   pub rest : (p : Map) (g : ℤ) (ts us : List ℤ) → SameTower k w h (tower_in w h ts) (tower k w h p) → SameTower k w h (tower_in w h us) (tower k w h (with_height p x y g)) →
-      (i : ℕ) → i < w * h → (Has (touched k w h x y) i → ⊥) → slice_index_or us i (pos 0) ≡ slice_index_or ts i (pos 0)
+      (i : ℕ) → i < w * h → (ContainsAt (touched k w h x y) i → ⊥) → slice_index_or us i (pos 0) ≡ slice_index_or ts i (pos 0)
 
 abbrev pub TouchesFew : Type 0
 TouchesFew = (k w h x y : ℕ) → size k w ≡ 1 → size k h ≡ 1 → FewTouched k w h x y

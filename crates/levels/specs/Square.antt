@@ -3,7 +3,7 @@
 --     joined, shown, at_level     the way back
 --     tower               the tower of a map
 --     begins, tower_in    where the numbers of a level begin in a list, and the tower that stands in it
---     SameTower          two towers have the same numbers, wherever there are any
+--     SameTower           two towers have the same numbers, wherever there are any
 use Rattle.std.specs.Prelude.{◌≡◌, ℕ, zero, suc, ◌+◌, ◌-◌, ◌*◌, ◌/◌, ◌<◌, List, ℤ, pos, slice_index_or}
 use Rattle.pairs.specs.Pairs.{mean_of, difference_of, one_of}
 use Rattle.levels.specs.Maps.{Map, power}

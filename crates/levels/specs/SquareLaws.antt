@@ -3,7 +3,7 @@ use Rattle.std.specs.Prelude.{◌≡◌, ℕ, suc, ◌+◌, ◌-◌, ◌*◌, �
 use Rattle.levels.specs.Maps.{Map, power, size, level, with_height}
 use Rattle.levels.specs.Towers as Sized
 use Rattle.levels.specs.Towers.{Tower}
-use Rattle.levels.specs.Numbering as Sized-numbers
+use Rattle.levels.specs.Numbering as SizedNumbers
 use Rattle.levels.specs.Square.{across, down, halved_times, tower, at_level, tower_in, SameTower}
 
 -- at 2^k by 2^k places levels, towers, numbering and what is shown are the same
@@ -11,7 +11,7 @@ pub record AsSquare (k : ℕ) : Type 0 where
   pub sizes : (l : ℕ) → l ≤ k → size l (power k) ≡ power (k - l)
   pub levels : (l x y : ℕ) (p : Map) → l ≤ k → x < power (k - l) → y < power (k - l) → level l (power k) (power k) p x y ≡ halved_times l p x y
   pub towers : (p : Map) → SameTower k (Sized.tower k (power k) (power k) p) (tower k p)
-  pub numbering : (ts : List ℤ) → SameTower k (Sized-numbers.tower_in (power k) (power k) ts) (tower_in k ts)
+  pub numbering : (ts : List ℤ) → SameTower k (SizedNumbers.tower_in (power k) (power k) ts) (tower_in k ts)
   pub same : (t s : Tower) → (Sized.SameTower k (power k) (power k) t s → SameTower k t s) × (SameTower k t s → Sized.SameTower k (power k) (power k) t s)
   pub shows : (l x y : ℕ) (t : Tower) → l ≤ k → x < power (k - l) → y < power (k - l) → Sized.at_level k (power k) (power k) t l x y ≡ at_level k t l x y
 

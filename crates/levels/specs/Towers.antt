@@ -3,7 +3,7 @@
 --     tower               that of a map which is halved k times
 --     shown, at_level     the map that a tower shows so many levels below its top, and at a level
 --     levels              how often a map is halved until it is one place
---     SameTower          two towers have the same numbers, wherever there are any
+--     SameTower           two towers have the same numbers, wherever there are any
 use Rattle.std.specs.Prelude.{◌≡◌, ℕ, zero, suc, ◌+◌, ◌-◌, ◌/◌, ◌<◌, max, cond, ℤ, nat_le}
 use Rattle.levels.specs.Maps.{Map, size, across, down, joined, level}
 

@@ -6,7 +6,7 @@ use Rattle.pairs.proofs.Exact.{bits, read_height, read_difference, pair_read, on
 use Rattle.levels.specs.Maps.{size, line_up, apart, means, across, halved, down, level}
 use Rattle.levels.specs.Towers.{tower}
 use Rattle.levels.specs.Numbering.{map_in, down_index, across_index, tower_in, Holds}
-use Rattle.levels.proofs.Held.{two-by-two}
+use Rattle.levels.proofs.Held.{two_by_two}
 use Rattle.maps.specs.declared.quad.Quad.{Quad}
 use Rattle.maps.specs.Quads.{QuadOf, numbers}
 
@@ -29,7 +29,7 @@ module _ (a b c d : ℤ) (ha : Height a) (hb : Height b) (hc : Height c) (hd : H
     wide = refl;
     high = refl;
     heights = all_heights;
-    same = two-by-two (tower_in 2 2 (numbers q)) (tower 1 2 2 (map_in 2 (a ∷ b ∷ c ∷ d ∷ []))) o.mean o.down o.upper o.lower;
+    same = two_by_two (tower_in 2 2 (numbers q)) (tower 1 2 2 (map_in 2 (a ∷ b ∷ c ∷ d ∷ []))) o.mean o.down o.upper o.lower;
   }
 
   -- what three pairs make of them

@@ -1,5 +1,5 @@
 -- Four heights that become one. Assumes nothing: these are definitions.
---     QuadOf             a quad is that of the heights a b, and c d below them: rows are halved first, then the two means
+--     QuadOf              a quad is that of the heights a b, and c d below them: rows are halved first, then the two means
 --     numbers             its numbers in the order of a tower
 use Rattle.std.specs.Prelude.{◌≡◌, List, [], ◌∷◌, ℤ}
 use Rattle.pairs.specs.Pairs.{mean_of, difference_of}

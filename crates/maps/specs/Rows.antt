@@ -1,9 +1,9 @@
 -- Rows of numbers, halved and back. Assumes nothing: these are definitions.
 --     line                a list as a line of numbers
---     RowHalved          a row's means and differences stand at their places, and the rest is as it was
---     OneBack            a number is the one of its pair that its place says
---     PairsBack          places of whole pairs are what their means and differences lead back to
---     RowBack            places of a row are, a last one alone too
+--     RowHalved           a row's means and differences stand at their places, and the rest is as it was
+--     OneBack             a number is the one of its pair that its place says
+--     PairsBack           places of whole pairs are what their means and differences lead back to
+--     RowBack             places of a row are, a last one alone too
 use Rattle.std.specs.Prelude.{◌≡◌, ℕ, ◌+◌, ◌*◌, ◌/◌, ◌%◌, ◌<◌, ◌≤◌, List, length, ℤ, pos, slice_index_or}
 use Rattle.pairs.specs.Pairs.{Height, Difference, one_of}
 use Rattle.levels.specs.Maps.{line_up, apart, line_down}

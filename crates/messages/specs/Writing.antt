@@ -2,7 +2,7 @@
 --     row_text            numbers in one line, parted by one blank
 --     refusal_text        a refusal in one line: its number and its place
 --     rows_of             numbers that stand row by row, cut into rows
---     Answer, answer_text     what a command answers, and its text: rows of numbers, one to a line, or a refusal; a command that prints nothing answers no rows
+--     Answer, answer_text what a command answers, and its text: rows of numbers, one to a line, or a refusal; a command that prints nothing answers no rows
 use Rattle.std.specs.Prelude.{ℕ, ◌*◌, List, [], ◌∷◌, ◌++◌, map, take, drop, ℤ, codes, decimal}
 use Rattle.std.specs.List.{range_with_len, flat_map}
 use Rattle.std.specs.Fmt.{signed_decimal}

@@ -1,9 +1,9 @@
 -- Two heights that become their mean and their difference, and back. Assumes nothing: these are definitions.
---     Height, Difference     the heights of a map, 0 to 65,535, and what two of them can differ by
---     half                   half of a number, rounded toward what is smaller, below 0 too: half of -3 is -2
+--     Height, Difference  the heights of a map, 0 to 65,535, and what two of them can differ by
+--     half                half of a number, rounded toward what is smaller, below 0 too: half of -3 is -2
 --     mean_of, difference_of     what a pair becomes: its mean, rounded down, and the left less the right
 --     first_of, second_of, one_of     the pair again, from its mean and its difference, and the one of it at a place
---     BothBack              the law of a pair
+--     BothBack            the law of a pair
 use Rattle.std.specs.Prelude.{◌≡◌, ℕ, ◌/◌, ◌%◌, cond, ℤ, pos, negsuc, ◌+ℤ◌, ◌-ℤ◌, neg_ℤ, ◌≤ℤ◌, ◌==◌}
 
 abbrev pub max_height : ℕ

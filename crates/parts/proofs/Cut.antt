@@ -6,7 +6,7 @@ use Rattle.levels.specs.Numbering.{Holds}
 use Rattle.levels.proofs.Held.{held_by}
 use Rattle.levels.proofs.Sizes.{power_pos}
 use Rattle.levels.proofs.Squares.{whole, level_whole}
-use Rattle.levels.proofs.SquareLaws as Square-laws
+use Rattle.levels.proofs.SquareLaws as SquareLaws
 use Rattle.refusals.specs.declared.Refusal.{Refusal}
 use Rattle.tower.specs.Checks.{places}
 use Rattle.tower.proofs.Squared.{from_tower, level_tower}
@@ -24,7 +24,7 @@ coarse_part k l n ts lk e =
       holds = hold;
       square = λ p o. record {
         heights = λ x y hx hy. rw (← (level_whole l (power k) (power k) p x y (whole k l x lk hx) (whole k l y lk hy))) ((hold p (from_tower k ts p o)).heights x y hx hy);
-        same = Square-laws.part_is_tower_lem k l p ts lk o.same;
+        same = SquareLaws.part_is_tower_lem k l p ts lk o.same;
       };
     })
 

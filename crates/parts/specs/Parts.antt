@@ -3,7 +3,7 @@
 --     coarse_refusal, detail_refusal     when there is no such part
 --     begins, part_size   where the j-th part of a tower stands in it, and how long it is: the top, and then the details, the coarsest first
 --     join_refusal, assemble_refusal     when parts are not put together
---     CoarsePart         a part is the tower of the smaller map
+--     CoarsePart          a part is the tower of the smaller map
 --     Joined              two parts put together are the next finer coarse part
 --     Handed              a part is handed back, or a part of none
 --     Assembled           all parts put together are the tower

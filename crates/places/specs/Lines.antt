@@ -1,6 +1,6 @@
 -- One place of a line of heights, and the difference of its pair. Assumes nothing: these are definitions.
 --     Heights             each of the n places of a line has a height
---     DifferenceAt       the difference of the pair that a place is in stands at an index of a list, if the pair is whole
+--     DifferenceAt        the difference of the pair that a place is in stands at an index of a list, if the pair is whole
 use Rattle.std.specs.Prelude.{◌≡◌, ℕ, ◌+◌, ◌*◌, ◌/◌, ◌<◌, List, ℤ, pos, slice_index_or}
 use Rattle.pairs.specs.Pairs.{Height}
 use Rattle.levels.specs.Maps.{apart}

@@ -2,7 +2,7 @@
 ghost use Rattle.std.specs.Prelude.{◌≡◌, ◌++◌, is_some, IfOk, Some, None, string_bytes, OnOk};
 ghost use Rattle.drafts.specs.Drafts.{Drafts};
 ghost use Rattle.drafts.specs.Given.{Given, with_row};
-ghost use Rattle.texts.specs.Commands.{command as command-in, is_row, row};
+ghost use Rattle.texts.specs.Commands.{command as command_in, is_row, row};
 ghost use Rattle.texts.specs.Words.{lines, words};
 ghost use Rattle.sessions.specs.Runs.{after, asked, asked_given, asked_text, begins, ended, ended_text, obeyed, obeyed_text, row_of, said, session_text, start, State, taken, taken_text};
 ghost use Rattle.sessions.specs.Stands.{Stands, Went};
@@ -66,7 +66,7 @@ impl Session {
 
     // A line that is no row of a map.
     fn ask(&mut self, heap: Global, line: &[u8], at: u64, out: &mut String) -> Result<(), Failure>
-        ensures { (s : State) → Stands self.old s → s.given ≡ None → OnOk result (Went (record { line = s.line; given = asked_given (command-in line.entry.now); original = asked s.original (command-in line.entry.now) }) (asked_text at s.original (words line.entry.now) (command-in line.entry.now)) self.new (string_bytes out.old) (string_bytes out.new)) }
+        ensures { (s : State) → Stands self.old s → s.given ≡ None → OnOk result (Went (record { line = s.line; given = asked_given (command_in line.entry.now); original = asked s.original (command_in line.entry.now) }) (asked_text at s.original (words line.entry.now) (command_in line.entry.now)) self.new (string_bytes out.old) (string_bytes out.new)) }
     {
         match read_command(line) {
             Some(command) => self.obey(heap, command, at, out),

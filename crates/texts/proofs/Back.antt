@@ -5,7 +5,7 @@ use Rattle.std.specs.Option.{option_map}
 use Rattle.std.specs.Str.Parse.{AllDigits}
 use Rattle.std.specs.Int.{IsInRange}
 use Rattle.std.specs.Fmt.{signed_decimal}
-use Rattle.std.specs.List.{AllByRecursion as All}
+use Rattle.std.specs.List.{AllByRecursion}
 use Rattle.std.proofs.lemmas.Fmt.{decimal_is_IsNumeral, decimal_nonempty}
 use Rattle.std.proofs.ByRecursion.{All-weaker}
 use Rattle.std.proofs.lemmas.Str.Parse.{digit_at, digit_from_value}
@@ -67,12 +67,12 @@ unfolding rest_text
 parted_rest [] = refl
 parted_rest (z ∷ zs) = refl
 
-rest_words : (zs : List ℤ) → All (λ z. mag z + 1 < 2 ^ 63) zs → words (rest_text zs) ≡ map signed_decimal zs
+rest_words : (zs : List ℤ) → AllByRecursion (λ z. mag z + 1 < 2 ^ 63) zs → words (rest_text zs) ≡ map signed_decimal zs
 unfolding rest_text
 rest_words [] h = words_blank 10 [] refl ∙ words_none
 rest_words (z ∷ zs) h = after_blank (signed_decimal z) (rest_text zs) (map signed_decimal zs) (signed_word z h.0) (parted_rest zs) (rest_words zs h.1)
 
-row_words : (zs : List ℤ) → All (λ z. mag z + 1 < 2 ^ 63) zs → words (row_text zs) ≡ map signed_decimal zs
+row_words : (zs : List ℤ) → AllByRecursion (λ z. mag z + 1 < 2 ^ 63) zs → words (row_text zs) ≡ map signed_decimal zs
 unfolding row_text
 row_words [] h = words_blank 10 [] refl ∙ words_none
 row_words (z ∷ zs) h = words_word (signed_decimal z) (rest_text zs) (signed_word z h.0) (parted_rest zs) ∙ ap (λ ws. signed_decimal z ∷ ws) (rest_words zs h.1)
@@ -88,12 +88,12 @@ unfolding numbers_text
 parted_numbers [] = tt
 parted_numbers (n ∷ ns) = refl
 
-numbers_words : (ns : List ℕ) → All (λ n. n < 2 ^ 64) ns → words (numbers_text ns) ≡ map decimal ns
+numbers_words : (ns : List ℕ) → AllByRecursion (λ n. n < 2 ^ 64) ns → words (numbers_text ns) ≡ map decimal ns
 unfolding numbers_text
 numbers_words [] h = words_none
 numbers_words (n ∷ ns) h = after_blank (decimal n) (numbers_text ns) (map decimal ns) (decimal_word n h.0) (parted_numbers ns) (numbers_words ns h.1)
 
-numbers_back : (ns : List ℕ) → All (λ n. n < 2 ^ 64) ns → all_read number (words (numbers_text ns)) ≡ Some ns
+numbers_back : (ns : List ℕ) → AllByRecursion (λ n. n < 2 ^ 64) ns → all_read number (words (numbers_text ns)) ≡ Some ns
 numbers_back ns h = ap (all_read number) (numbers_words ns h) ∙ all_read_map number decimal ns (All-weaker (λ n. n < 2 ^ 64) (λ n. number (decimal n) ≡ Some n) number_back_lem ns h)
 
 name_word : (c : Command) → Word (its_name c)

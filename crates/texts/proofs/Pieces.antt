@@ -1,7 +1,7 @@
 -- The first line of a text and the first word of a line. Assumes nothing.
 use Rattle.std.proofs.Common.{◌≡◌, ℕ, zero, suc, ◌+◌, ◌<◌, ◌≤◌, Bool, true, false, cond, ◌⊎◌, List, [], ◌∷◌, ◌++◌, length, get_or, take, drop, sym, refl, ap, ◌∙◌, ⊎_elim, append_assoc, append-nil, add-zero, arith, length-drop, take-append-drop}
 use native.Mathlib.Nat.{sub-zero}
-use Rattle.std.specs.List.{between, AllByRecursion as All}
+use Rattle.std.specs.List.{between, AllByRecursion}
 use Rattle.std.proofs.lemmas.Slice.{between_to_end}
 use Rattle.std.proofs.lemmas.List.{get_or-take, get_or-drop, take_all, drop_more, drop_all, length-take-le}
 use Rattle.std.proofs.ByRecursion.{All-from_get_or}
@@ -10,7 +10,7 @@ use Rattle.texts.specs.Words.{pieces, but_last_empty, but_empty, lines, words, i
 
 -- bytes that do not part
 abbrev pub Whole : (ℕ → Bool) → List ℕ → Type 0
-Whole parts bs = All (λ b. parts b ≡ false) bs
+Whole parts bs = AllByRecursion (λ b. parts b ≡ false) bs
 
 -- the end, or a byte that parts
 abbrev pub Parted : (ℕ → Bool) → List ℕ → Type 0

@@ -2,7 +2,7 @@
 ghost use Rattle.std.specs.Prelude.{◌≡◌, ℕ, List, length, IfOk, Some, vec_items, MatchOption, ◌≢◌};
 ghost use Rattle.std.specs.Option.{option_map};
 ghost use Rattle.std.specs.Str.{bytes_eq};
-ghost use Rattle.texts.specs.Commands.{command as command-in, is_row, row};
+ghost use Rattle.texts.specs.Commands.{command as command_in, is_row, row};
 ghost use Rattle.texts.specs.Words.{all_read, number, words};
 
 use crate::words::{next_word, read_height, read_number};
@@ -35,7 +35,7 @@ fn is_word(word: &[u8], name: &[u8]) -> bool
 
 // The command of a line, or none where it cannot be read.
 pub fn read_command(line: &[u8]) -> Option<Command>
-    ensures { result ≡ command-in line.now }
+    ensures { result ≡ command_in line.now }
 {
     let (name, rest) = next_word(line)?;
     if is_word(name, b"map") {

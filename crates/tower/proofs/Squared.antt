@@ -2,7 +2,7 @@
 use Rattle.std.proofs.Common.{◌≡◌, ℕ, ◌-◌, ◌<◌, ◌≤◌, List, ℤ, sym, ◌∙◌}
 use Rattle.levels.specs.Maps.{Map, power, level}
 use Rattle.levels.specs.Towers as Sized
-use Rattle.levels.specs.Numbering as Sized-numbers
+use Rattle.levels.specs.Numbering as SizedNumbers
 use Rattle.levels.specs.Numbering.{Holds}
 use Rattle.levels.specs.Square as Square
 use Rattle.levels.proofs.Held.{level_held}
@@ -15,8 +15,8 @@ module _ (k : ℕ) (ts : List ℤ) (p : Map) where
   to_tower o = record {
     heights = o.heights;
     same = same_trans k (Square.tower_in k ts) (Sized.tower k (power k) (power k) p) (Square.tower k p)
-        (same_trans k (Square.tower_in k ts) (Sized-numbers.tower_in (power k) (power k) ts) (Sized.tower k (power k) (power k) p)
-        (same_sym k (Sized-numbers.tower_in (power k) (power k) ts) (Square.tower_in k ts) (numbering_same k ts)) (to_square k _ _ o.same))
+        (same_trans k (Square.tower_in k ts) (SizedNumbers.tower_in (power k) (power k) ts) (Sized.tower k (power k) (power k) p)
+        (same_sym k (SizedNumbers.tower_in (power k) (power k) ts) (Square.tower_in k ts) (numbering_same k ts)) (to_square k _ _ o.same))
         (towers_same k p);
   }
 
@@ -25,8 +25,8 @@ module _ (k : ℕ) (ts : List ℤ) (p : Map) where
     wide = size_end k;
     high = size_end k;
     heights = o.heights;
-    same = from_square k _ _ (same_trans k (Sized-numbers.tower_in (power k) (power k) ts) (Square.tower k p) (Sized.tower k (power k) (power k) p)
-        (same_trans k (Sized-numbers.tower_in (power k) (power k) ts) (Square.tower_in k ts) (Square.tower k p) (numbering_same k ts) o.same)
+    same = from_square k _ _ (same_trans k (SizedNumbers.tower_in (power k) (power k) ts) (Square.tower k p) (Sized.tower k (power k) (power k) p)
+        (same_trans k (SizedNumbers.tower_in (power k) (power k) ts) (Square.tower_in k ts) (Square.tower k p) (numbering_same k ts) o.same)
         (same_sym k (Sized.tower k (power k) (power k) p) (Square.tower k p) (towers_same k p)));
   }
 

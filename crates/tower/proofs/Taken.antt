@@ -1,7 +1,7 @@
 -- What the calls answer and leave. Assumes nothing.
 use Rattle.std.proofs.Common.{◌≡◌, ℕ, ◌+◌, ◌-◌, ◌*◌, ◌<◌, List, length, ℤ, pos, Some, None, Ok, Err, Option, Result, refl, ◌∙◌, arith}
 use borrow.Author.Differences.{ints}
-use Rattle.std.specs.List.{ContainsAt as Has}
+use Rattle.std.specs.List.{ContainsAt}
 use Rattle.pairs.specs.Pairs.{Height}
 use Rattle.levels.specs.Maps.{Map, power, size, level, with_height}
 use Rattle.levels.specs.Numbering.{Holds, map_in, touched}
@@ -33,7 +33,7 @@ built k s n hs after o el holds =
 
 pub changed : (k s n x y g : ℕ) (z : ℤ) (ts after : List ℤ) → z ≡ pos g → CanChange k n x y g s → length after ≡ length ts →
     ((j : ℕ) (p : Map) → Holds j s s ts p → Height z → Holds j s s after (with_height p x y z)) →
-    ((j i : ℕ) → size j s ≡ 1 → size j s ≡ 1 → (Has (touched j s s x y) i → ⊥) → line after i ≡ line ts i) → ChangedTower k ts x y g after
+    ((j i : ℕ) → size j s ≡ 1 → size j s ≡ 1 → (ContainsAt (touched j s s x y) i → ⊥) → line after i ≡ line ts i) → ChangedTower k ts x y g after
 changed k s n x y g z ts after ez o el holds rest =
     let e = o.side.value in
     let one = size_end k in

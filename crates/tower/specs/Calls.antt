@@ -1,10 +1,10 @@
 -- What the calls on a tower of 2^k by 2^k places leave. Assumes nothing: these are definitions.
---     IsTowerOf         a list is the tower of a map, in words without sizes
+--     IsTowerOf           a list is the tower of a map, in words without sizes
 --     BuiltTower, ShownWindow, ChangedTower     what a call that is taken leaves, in the words of any size and in those of 2^k by 2^k places
 --     Answered            a call answers its refusal and changes nothing, or is taken
 --     Entered             the same of an entry, which answers the refusal's number
 use Rattle.std.specs.Prelude.{◌≡◌, ℕ, ◌+◌, ◌*◌, ◌<◌, ◌≤◌, List, length, ℤ, pos, Some, None, Ok, Err, Option, Result}
-use Rattle.std.specs.List.{ContainsAt as Has}
+use Rattle.std.specs.List.{ContainsAt}
 use Rattle.pairs.specs.Pairs.{Height}
 use Rattle.levels.specs.Maps.{Map, power, level, with_height}
 use Rattle.levels.specs.Numbering.{Holds, map_in, touched}
@@ -37,7 +37,7 @@ pub record ShownWindow (k : ℕ) (ts : List ℤ) (l x y w h : ℕ) (after : List
 pub record ChangedTower (k : ℕ) (ts : List ℤ) (x y g : ℕ) (after : List ℤ) : Type 0 where
   pub length_is : length after ≡ length ts
   pub few : length (touched k (power k) (power k) x y) ≤ 1 + 2 * k
-  pub rest : (i : ℕ) → (Has (touched k (power k) (power k) x y) i → ⊥) → line after i ≡ line ts i
+  pub rest : (i : ℕ) → (ContainsAt (touched k (power k) (power k) x y) i → ⊥) → line after i ≡ line ts i
   pub holds : (p : Map) → Holds k (power k) (power k) ts p → Holds k (power k) (power k) after (with_height p x y (pos g))
   pub square : (p : Map) → IsTowerOf k ts p → IsTowerOf k after (with_height p x y (pos g))
 

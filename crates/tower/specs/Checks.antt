@@ -1,7 +1,7 @@
 -- When a call on a tower of 2^k by 2^k places is refused: the first test that applies, in this order. Assumes nothing: these are definitions.
 --     places              how many places a map has
 --     is_height, first_wrong     a height; the first place of a map that is missing, too many or no height
---     is_on_side             a stretch of places, from one on, lies within a side
+--     is_on_side          a stretch of places, from one on, lies within a side
 --     build_refusal, window_refusal, change_refusal     the refusal of a call, or none
 use Rattle.std.specs.Prelude.{ℕ, zero, suc, ◌+◌, ◌-◌, ◌*◌, min, Bool, false, cond, not, ◌&&◌, List, [], ◌∷◌, ℤ, pos, negsuc, Some, None, Option, ◌==◌, nat_le, nat_lt}
 use Rattle.pairs.specs.Pairs.{max_height}

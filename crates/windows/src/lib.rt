@@ -3,7 +3,7 @@
 
 ghost use Rattle.std.specs.Prelude.{◌≡◌, ℕ, suc, ◌+◌, ◌-◌, ◌*◌, ◌/◌, ◌%◌, ◌<◌, ◌≤◌, length, pos, slice_index_or};
 ghost use Rattle.std.specs.List.{between};
-ghost use Rattle.levels.specs.Maps.{halved, Map, means as means-of};
+ghost use Rattle.levels.specs.Maps.{halved, Map, means as means_of};
 ghost use Rattle.levels.specs.Numbering.{Holds};
 ghost use Rattle.maps.specs.Limits.{max_side};
 ghost use Rattle.maps.specs.Rows.{line, OneBack};
@@ -46,7 +46,7 @@ fn row_means(
     requires size { (wide ≤ max_side) × (high ≤ max_side) }
     requires place { (x + length means.old ≤ (wide + 1) / 2) × (y < high) }
     requires coarse { length coarse.now ≡ length means.old }
-    ensures { (k : ℕ) (p : Map) → Holds (suc k) wide high tower.now p → Row (length means.old) coarse.now (halved wide high p) x (y / 2) → Row (length means.old) means.new (means-of wide p) x y }
+    ensures { (k : ℕ) (p : Map) → Holds (suc k) wide high tower.now p → Row (length means.old) coarse.now (halved wide high p) x (y / 2) → Row (length means.old) means.new (means_of wide p) x y }
 {
     if 2 * (y / 2) + 1 < high {
         let at = down_at(wide, high, x, y / 2);
@@ -70,7 +70,7 @@ fn row_heights(
     requires size { (wide ≤ max_side) × (high ≤ max_side) }
     requires place { (x + length row.old ≤ wide) × (y < high) }
     requires means { length row.old ≤ 2 * length means.now - x % 2 }
-    ensures { (k : ℕ) (p : Map) → Holds (suc k) wide high tower.now p → Row (length means.now) means.now (means-of wide p) (x / 2) y → Row (length row.old) row.new p x y }
+    ensures { (k : ℕ) (p : Map) → Holds (suc k) wide high tower.now p → Row (length means.now) means.now (means_of wide p) (x / 2) y → Row (length row.old) row.new p x y }
 {
     let at = across_at(wide, high, x / 2, y);
     row_back(wide, x, means, &tower[at..at + (wide / 2 - x / 2)], row);
