@@ -66,7 +66,7 @@ impl Session {
 
     // A line that is no row of a map.
     fn ask(&mut self, heap: Global, line: &[u8], at: u64, out: &mut String) -> Result<(), Failure>
-        ensures { (s : State) → Stands self.old s → s.given ≡ None → OnOk result (Went (record { line = s.line; given = asked_given (command_in line.entry.now); original = asked s.original (command_in line.entry.now) }) (asked_text at s.original (words line.entry.now) (command_in line.entry.now)) self.new (string_bytes out.old) (string_bytes out.new)) }
+        ensures { (s : State) → Stands self.old s → s.given ≡ None → OnOk result (Went (record { line = s.line; given = asked_given (command_in line.now); original = asked s.original (command_in line.now) }) (asked_text at s.original (words line.now) (command_in line.now)) self.new (string_bytes out.old) (string_bytes out.new)) }
     {
         match read_command(line) {
             Some(command) => self.obey(heap, command, at, out),
@@ -88,7 +88,7 @@ impl Session {
 
     // A row of the map that is being given, if one is.
     fn put_row(&mut self, heap: Global, line: &[u8], at: u64) -> Result<(), Failure>
-        ensures { (s : State) (g : Given) → Stands self.old s → s.given ≡ Some g → OnOk result (Stands self.new (record { line = s.line; given = Some (with_row g at (row line.entry.now)); original = s.original })) }
+        ensures { (s : State) (g : Given) → Stands self.old s → s.given ≡ Some g → OnOk result (Stands self.new (record { line = s.line; given = Some (with_row g at (row line.now)); original = s.original })) }
     {
         if let Some(draft) = &mut self.draft {
             put_line(draft, heap, line, at)?;

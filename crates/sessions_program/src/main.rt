@@ -4,15 +4,8 @@
 use sessions::Session;
 use std::io::{BufRead, BufReader};
 
+// An error ends the program with a message, which the runtime prints, and status 1.
 fn main(rt: HostRuntime) -> anyhow::Result<()> {
-    let done = answer_all(&rt);
-    if let Err(error) = &done {
-        let _ = eprintln!(rt; "sirflond: {error}");
-    }
-    done
-}
-
-fn answer_all(rt: &HostRuntime) -> anyhow::Result<()> {
     let heap = rt.alloc();
     let mut session = Session::new();
     let mut input = BufReader::new(heap, rt.stdin())?;

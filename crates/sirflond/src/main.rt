@@ -1,8 +1,6 @@
 // Reads a map and commands from standard input, a line each, and shows windows and towers.
 #![tactic(auto)]
 
-ghost use Rattle.std.specs.Option.{MatchOption};
-
 use parts::{check_coarse, coarse};
 use refusals::Refusal;
 use std::alloc::{AllocError, Global};

@@ -21,7 +21,7 @@ impl Viewer {
     pub fn new(k: u64, tower: Vec<i32>) -> Viewer
         requires levels { k ≤ max_k }
         requires whole { vec_len tower ≡ places k }
-        ensures { ((result.k ≡ k)) × (((result.level ≡ 0)) × ((result.tower ≡ tower))) }
+        ensures { (result.k ≡ k) × ((result.level ≡ 0) × (result.tower ≡ tower)) }
     {
         Viewer { k, level: 0, tower }
     }
