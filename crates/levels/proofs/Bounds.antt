@@ -23,8 +23,8 @@ module _ (P : ℤ → Type 0) (kept : (a b : ℤ) → P a → P b → P (mean_of
       halved_each (size l w) (size l h) (level l w h p) x y hx hy (λ s t es et hs ht. level_each l w h p s t hs ht
       (λ u v hu hv eu ev. o u v hu hv (div_power u l ∙ ap (λ (n : ℕ). n / 2) eu ∙ es) (div_power v l ∙ ap (λ (n : ℕ). n / 2) ev ∙ et)))
 
-pub between : Between
-between l w h p x y a b = level_each (λ z. (a ≤ℤ z) × (z ≤ℤ b)) (λ c d hc hd. omega (arith, ints, half_is)) l w h p x y
+pub between_lem : Between
+between_lem l w h p x y a b = level_each (λ z. (a ≤ℤ z) × (z ≤ℤ b)) (λ c d hc hd. omega (arith, ints, half_is)) l w h p x y
 
 -- an order that means keep: up or down
 module _ (R : ℤ → ℤ → Type 0) (same : (a : ℤ) → R a a) (on : (a b c : ℤ) → R a b → R b c → R a c) (both : (a b c d : ℤ) → R a c → R b d → R (mean_of a b) (mean_of c d))

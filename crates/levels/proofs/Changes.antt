@@ -63,15 +63,15 @@ changes_few_lem w h l p x y u v g =
     let d : SameOff (down (size l w) (level l w h (with_height p x y g))) (down (size l w) (level l w h p)) (x / power l / 2) (y / power l / 2) = down_off (size l w) (size l h) _ _ _ _ (level_off l w h p x y g) in
     rw (div_power x l, div_power y l) (a u v, d u v)
 
-pub either_order : EitherOrder
+pub either_order_lem : EitherOrder
 unfolding with_height
-either_order p x y u v f g n = fun_ext (λ a. fun_ext (λ b. let n' : x ≡ u → y ≡ v → ⊥ = λ e e'. n (e, e') in grind (arith, nat_tests)))
+either_order_lem p x y u v f g n = fun_ext (λ a. fun_ext (λ b. let n' : x ≡ u → y ≡ v → ⊥ = λ e e'. n (e, e') in grind (arith, nat_tests)))
 
-pub undone : Undone
-undone p x y g = sym (off_with p (with_height p x y g) x y (λ u v n. sym (with_off p x y g u v n)))
+pub undone_lem : Undone
+undone_lem p x y g = sym (off_with p (with_height p x y g) x y (λ u v n. sym (with_off p x y g u v n)))
 
 pub towers_either_order_lem : TowersEitherOrder
-towers_either_order_lem k w h p x y u v f g n = ap (tower k w h) (either_order p x y u v f g n)
+towers_either_order_lem k w h p x y u v f g n = ap (tower k w h) (either_order_lem p x y u v f g n)
 
 pub towers_undone_lem : TowersUndone
-towers_undone_lem k w h p x y g = ap (tower k w h) (undone p x y g)
+towers_undone_lem k w h p x y g = ap (tower k w h) (undone_lem p x y g)

@@ -102,5 +102,5 @@ counts (suc l) w h =
     let b : ℕ = size l h in
     parts_add ((a + 1) / 2) (a / 2) ((b + 1) / 2) (b / 2) a b (differences l w h) (omega arith) (omega arith) ∙ counts l w h
 
-pub as_many : AsMany
-as_many k w h tw th = let e = rw (tw, th) at (counts k w h) in omega arith
+pub as_many_lem : AsMany
+as_many_lem k w h tw th = let e = rw (tw, th) at (counts k w h) in omega arith

@@ -34,12 +34,12 @@ shows_all_lem k l p x y lk hx hy = shows_held_lem k l (tower k p) p x y lk hx hy
 square_from : (u n x : ℕ) → u / n ≡ x → x * n ≤ u
 square_from u n x e = rw e at (div-mul-le_self u n)
 
-pub between : Between
-between l p x y a b o =
+pub between_lem : Between
+between_lem l p x y a b o =
     let n : ℕ = power l in
     let w : ℕ = (x + 1) * n in
     let h : ℕ = (y + 1) * n in
-    let r = SizedBounds.between l w h p x y a b (let s = size_full l (x + 1) w (le_refl w) in omega arith) (let s = size_full l (y + 1) h (le_refl h) in omega arith)
+    let r = SizedBounds.between_lem l w h p x y a b (let s = size_full l (x + 1) w (le_refl w) in omega arith) (let s = size_full l (y + 1) h (le_refl h) in omega arith)
     (λ u v hu hv eu ev. o u v (square_from u n x eu) hu (square_from v n y ev) hv) in
     rw (level_whole l w h p x y (le_refl w) (le_refl h)) at r
 

@@ -77,9 +77,9 @@ unfolding row_text
 row_words [] h = words_blank 10 [] refl ∙ words_none
 row_words (z ∷ zs) h = words_word (signed_decimal z) (rest_text zs) (signed_word z h.0) (parted_rest zs) ∙ ap (λ ws. signed_decimal z ∷ ws) (rest_words zs h.1)
 
-pub row_back : RowBack
+pub row_back_lem : RowBack
 unfolding row
-row_back zs h = ap (all_read height_number) (row_words zs h) ∙ all_read_map height_number signed_decimal zs (All-weaker (λ z. mag z + 1 < 2 ^ 63) (λ z. height_number (signed_decimal z) ≡ Some z) height_back_lem zs h)
+row_back_lem zs h = ap (all_read height_number) (row_words zs h) ∙ all_read_map height_number signed_decimal zs (All-weaker (λ z. mag z + 1 < 2 ^ 63) (λ z. height_number (signed_decimal z) ≡ Some z) height_back_lem zs h)
 
 -- a command
 

@@ -7,18 +7,18 @@ use Rattle.texts.specs.Words.{words, put_before, all_read}
 use Rattle.texts.specs.Commands.{is_row, begins_row}
 
 -- of the words `all`, the first read as xs, and ws are left
-abbrev pub SoFar : {X : Type 0} → (List ℕ → Option X) → (all ws : List (List ℕ)) → List X → Type 0
-SoFar reads all ws xs = all_read reads all ≡ option_map (λ ys. xs ++ ys) (all_read reads ws)
+abbrev pub ReadSoFar : {X : Type 0} → (List ℕ → Option X) → (all ws : List (List ℕ)) → List X → Type 0
+ReadSoFar reads all ws xs = all_read reads all ≡ option_map (λ ys. xs ++ ys) (all_read reads ws)
 
 module _ {X : Type 0} (reads : List ℕ → Option X) where
   none_yet : (o : Option (List X)) → o ≡ option_map (λ ys. [] ++ ys) o
   none_yet None = refl
   none_yet (Some ys) = refl
 
-  pub so_far_none : (all : List (List ℕ)) → SoFar reads all all []
+  pub so_far_none : (all : List (List ℕ)) → ReadSoFar reads all all []
   so_far_none all = none_yet (all_read reads all)
 
-  pub so_far_all : (all ws : List (List ℕ)) (xs : List X) → SoFar reads all ws xs → ws ≡ [] → all_read reads all ≡ Some xs
+  pub so_far_all : (all ws : List (List ℕ)) (xs : List X) → ReadSoFar reads all ws xs → ws ≡ [] → all_read reads all ≡ Some xs
   unfolding all_read
   so_far_all all ws xs h e = h ∙ ap (λ vs. option_map (λ ys. xs ++ ys) (all_read reads vs)) e ∙ ap Some (append-nil xs)
 
@@ -32,12 +32,12 @@ module _ {X : Type 0} (reads : List ℕ → Option X) where
   more_than xs (Some x) (Some ys) ns e = let same : xs ++ x ∷ ys ≡ ns = cc in omega (arith, ap length same, length-append xs (x ∷ ys))
 
   -- a word is left
-  module _ (all ws : List (List ℕ)) (w : List ℕ) (vs : List (List ℕ)) (xs : List X) (h : SoFar reads all ws xs) (e : ws ≡ w ∷ vs) where
+  module _ (all ws : List (List ℕ)) (w : List ℕ) (vs : List (List ℕ)) (xs : List X) (h : ReadSoFar reads all ws xs) (e : ws ≡ w ∷ vs) where
     at_word : all_read reads all ≡ option_map (λ ys. xs ++ ys) (put_before (reads w) (all_read reads vs))
     unfolding all_read
     at_word = h ∙ ap (λ us. option_map (λ ys. xs ++ ys) (all_read reads us)) e
 
-    pub so_far_more : (x : X) → Some x ≡ reads w → SoFar reads all vs (xs ++ x ∷ [])
+    pub so_far_more : (x : X) → Some x ≡ reads w → ReadSoFar reads all vs (xs ++ x ∷ [])
     so_far_more x r = at_word ∙ ap (λ o. option_map (λ ys. xs ++ ys) (put_before o (all_read reads vs))) (sym r) ∙ one_more xs x (all_read reads vs)
 
     pub so_far_wrong : None ≡ reads w → all_read reads all ≡ None

@@ -6,7 +6,7 @@ use Rattle.levels.specs.Maps.{Map, power, with_height}
 use Rattle.levels.specs.Numbering.{Holds, map_in, number, index, tower_in, Entry, the_top, a_down, an_across, There}
 use Rattle.levels.specs.Square as Square
 use Rattle.levels.specs.Towers.{tower}
-use Rattle.levels.proofs.Changes.{either_order, undone}
+use Rattle.levels.proofs.Changes.{either_order_lem, undone_lem}
 use Rattle.levels.proofs.Numbers.{numbers_all_lem}
 use Rattle.levels.proofs.Squares.{size_end}
 use Rattle.levels.proofs.SquareLaws.{shows_held_lem}
@@ -90,9 +90,9 @@ one_tower k ts us p lt lu o q = ext_get_or (pos 0) ts us (lt ∙ sym lu) (λ i h
 pub calls_either_order : CallsEitherOrder
 calls_either_order k x y f u v g p ts t₁ t₂ s₁ s₂ n l o a b c d =
     one_tower k t₂ s₂ (with_height (with_height p x y (pos f)) u v (pos g)) (b.length_is ∙ a.length_is ∙ l) (d.length_is ∙ c.length_is ∙ l)
-    (b.holds (with_height p x y (pos f)) (a.holds p o)) (rw (← (either_order p x y u v (pos f) (pos g) n)) at (d.holds (with_height p u v (pos g)) (c.holds p o)))
+    (b.holds (with_height p x y (pos f)) (a.holds p o)) (rw (← (either_order_lem p x y u v (pos f) (pos g) n)) at (d.holds (with_height p u v (pos g)) (c.holds p o)))
 
 pub calls_undone : CallsUndone
 calls_undone k x y f g p ts t₁ t₂ l o e a b =
     one_tower k t₂ ts p (b.length_is ∙ a.length_is ∙ l) l
-    (rw (undone p x y (pos f)) at (rw (← e) at (b.holds (with_height p x y (pos f)) (a.holds p o)))) o
+    (rw (undone_lem p x y (pos f)) at (rw (← e) at (b.holds (with_height p x y (pos f)) (a.holds p o)))) o

@@ -1,5 +1,5 @@
-use Rattle.levels.proofs.Changes.{either_order}
+use Rattle.levels.proofs.Changes.{either_order_lem}
 use Rattle.levels.proofs.either_order.Goals as goal
 
 pub returns : goal.returns
-returns c = either_order
+returns c = either_order_lem

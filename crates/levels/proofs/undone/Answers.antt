@@ -1,5 +1,5 @@
-use Rattle.levels.proofs.Changes.{undone}
+use Rattle.levels.proofs.Changes.{undone_lem}
 use Rattle.levels.proofs.undone.Goals as goal
 
 pub returns : goal.returns
-returns c = undone
+returns c = undone_lem
