@@ -1,5 +1,6 @@
 -- The rows of a map halved, one after the other. Assumes nothing.
-use Rattle.std.proofs.Common.{◌≡◌, ℕ, ◌+◌, ◌*◌, ◌/◌, ◌%◌, ◌<◌, ◌≤◌, ◌≢◌, ◌⊎◌, List, length, ℤ, pos, sym, ap, ◌∙◌, ap₂, inl, inr, ⊎_elim, mul-le-mul_right, arith}
+use Rattle.std.proofs.Common.{◌≡◌, ℕ, ◌+◌, ◌*◌, ◌/◌, ◌%◌, ◌<◌, ◌≤◌, ◌≢◌, ◌⊎◌, List, ◌++◌, length, ℤ, pos, sym, ap, ◌∙◌, ap₂, inl, inr, ⊎_elim, mul-le-mul_right, arith}
+use borrow.Rule.Slice.PartMut.{put_mid}
 use Rattle.std.specs.List.{between}
 use Rattle.std.proofs.lemmas.List.Edits.{length-between, get_or-between}
 use Rattle.std.proofs.lemmas.Bool.{cases_eq}
@@ -8,6 +9,7 @@ use Rattle.levels.specs.Maps.{apart, means, across}
 use Rattle.levels.specs.Numbering.{map_in}
 use Rattle.levels.proofs.Lines.{up_same}
 use Rattle.maps.specs.Rows.{line, RowHalved}
+use Rattle.maps.proofs.Lent.{first_lent, second_lent, neither_lent}
 use Rattle.building.specs.Steps.{RowsHalved}
 
 -- a row that lies before another ends where that begins, and a row of the map lies in it
@@ -39,16 +41,18 @@ module _ (src : List ℤ) (w y : ℕ) (end : y * w + w ≤ length src) where
     pub across : (k : ℕ) → k < w / 2 → line now (beside + k) ≡ across (map_in w src) k y
     pub rest : (i : ℕ) → (to ≤ i → i < to + (w + 1) / 2 → ⊥) → (beside ≤ i → i < beside + w / 2 → ⊥) → line now i ≡ line was i
 
-  pub row_put : (was now : List ℤ) (to beside : ℕ) → RowHalved row was now to beside ((length row + 1) / 2) (length row / 2) → RowPut was now to beside
+  -- the two parts of the room that it is halved into were lent
+  pub row_put : (was f g ms ds : List ℤ) (b to k a n : ℕ) → RowHalved row ms ds → was ≡ f ++ g → length f ≡ b → length ms ≡ k → length ds ≡ n → k ≡ (w + 1) / 2 → n ≡ w / 2 → to + k ≤ length f → a + n ≤ length g →
+      RowPut was (put_mid to k f ms ++ put_mid a n g ds) to (b + a)
   unfolding means across apart
-  row_put was now to beside o =
+  row_put was f g ms ds b to k a n o ew eb em ed ek en hf hg =
       let e = row_length in
       let o' = rw e at o in
-      record {
-        means = λ k hk. o.means k (rw e hk) ∙ rw e (up_same w (line row) (λ u. map_in w src u y) k (λ j hj. row_line j hj) hk);
-        across = λ k hk. o.across k (rw e hk) ∙ ap₂ difference_of (row_line (2 * k) (omega arith)) (row_line (2 * k + 1) (omega arith));
-        rest = λ i n m. o.rest i (rw e n) (rw e m);
-      }
+      rw (← eb, ew) (record {
+        means = λ j hj. first_lent f g ms ds to k a n em ed hf hg j (omega arith) ∙ o.means j (rw e hj) ∙ rw e (up_same w (line row) (λ u. map_in w src u y) j (λ i hi. row_line i hi) hj);
+        across = λ j hj. ap (line (put_mid to k f ms ++ put_mid a n g ds)) (omega arith) ∙ second_lent f g ms ds to k a n em ed hf hg j (omega arith) ∙ o.across j (rw e hj) ∙ ap₂ difference_of (row_line (2 * j) (omega arith)) (row_line (2 * j + 1) (omega arith));
+        rest = λ i p q. neither_lent f g ms ds to k a n em ed hf hg i (rw ek p) (rw en q);
+      })
 
 -- the row at which the means of row y stand
 module _ (h y t : ℕ) (hy : y < h) (even : y % 2 ≡ 0 → t ≡ y / 2) (odd : y % 2 ≡ 1 → t ≡ (h + 1) / 2 + y / 2) where

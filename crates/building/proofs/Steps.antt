@@ -1,7 +1,6 @@
 -- What the step across and the step down leave is the tower. Assumes nothing.
-use Rattle.std.proofs.Common.{◌≡◌, ℕ, suc, ◌+◌, ◌-◌, ◌*◌, ◌/◌, ◌%◌, ◌<◌, ◌≤◌, ◌≢◌, List, length, set, ℤ, pos, sym, ap, ◌∙◌, ap₂, ⊎_elim, arith}
+use Rattle.std.proofs.Common.{◌≡◌, ℕ, suc, ◌+◌, ◌-◌, ◌*◌, ◌/◌, ◌%◌, ◌<◌, ◌≤◌, ◌≢◌, List, ℤ, sym, ap, ◌∙◌, ap₂, ⊎_elim, arith}
 use Rattle.std.proofs.lemmas.Nat.{div-add-mod', div_below, mod_below}
-use Rattle.std.proofs.lemmas.List.{get_or-set_other, length-set}
 use Rattle.std.proofs.lemmas.Bool.{cases_lt, cases_eq}
 use Rattle.pairs.specs.Pairs.{Height, mean_of, difference_of}
 use Rattle.pairs.proofs.Half.{mean_height}
@@ -10,7 +9,6 @@ use Rattle.levels.specs.Numbering.{Holds, map_in}
 use Rattle.levels.proofs.Lines.{up_pair, up_last, up_same, up_height}
 use Rattle.levels.proofs.Held.{below, next_level, one_held, halved_height}
 use Rattle.maps.specs.Rows.{line}
-use Rattle.maps.proofs.Written.{first_put, second_put, neither_put}
 use Rattle.building.specs.Steps.{BeginsWith, BeginsParted, RowsHalved, ColumnsHalved, Copied}
 use Rattle.building.proofs.Rows.{row_within, widths}
 
@@ -143,23 +141,3 @@ quad_built k xs ts p e lies hs e0 e1 e2 e3 =
     (λ x y hx hy.
     let ex : x ≡ 0 = omega arith in
     ⊎_elim (λ (ey : y ≡ 0). rw (ex, ey) (e2 ∙ ap₂ difference_of a b)) (λ (n : y ≢ 0). let ey : y ≡ 1 = omega arith in rw (ex, ey) (e3 ∙ ap₂ difference_of c d)) (cases_eq y 0)))
-
--- four numbers written at the front
-module _ (r : List ℤ) (a b c d : ℤ) (room : 4 ≤ length r) where
-  abbrev four : List ℤ
-  four = set (set (set (set r 0 a) 1 b) 2 c) 3 d
-
-  pub four_0 : line four 0 ≡ a
-  four_0 = get_or-set_other (set (set (set r 0 a) 1 b) 2 c) 3 0 d (pos 0) (omega arith) ∙ get_or-set_other (set (set r 0 a) 1 b) 2 0 c (pos 0) (omega arith) ∙ first_put r 0 1 a b (omega arith) (omega arith)
-
-  pub four_1 : line four 1 ≡ b
-  four_1 = get_or-set_other (set (set (set r 0 a) 1 b) 2 c) 3 1 d (pos 0) (omega arith) ∙ get_or-set_other (set (set r 0 a) 1 b) 2 1 c (pos 0) (omega arith) ∙ second_put r 0 1 a b (omega arith)
-
-  pub four_2 : line four 2 ≡ c
-  four_2 = first_put (set (set r 0 a) 1 b) 2 3 c d (omega arith) (simp length-set (omega arith))
-
-  pub four_3 : line four 3 ≡ d
-  four_3 = second_put (set (set r 0 a) 1 b) 2 3 c d (simp length-set (omega arith))
-
-  pub four_past : (i : ℕ) → 4 ≤ i → line four i ≡ line r i
-  four_past i hi = neither_put (set (set r 0 a) 1 b) 2 3 c d i (omega arith) (omega arith) ∙ neither_put r 0 1 a b i (omega arith) (omega arith)

@@ -3,14 +3,17 @@
 
 ghost use Rattle.std.specs.Prelude.{◌≡◌, ℕ, ◌+◌, ◌*◌, ◌/◌, ◌%◌, ◌<◌, ◌≤◌, length};
 ghost use Rattle.pairs.specs.Pairs.{Height};
-ghost use Rattle.levels.specs.Maps.{apart, line_up, Map, size};
+ghost use Rattle.levels.specs.Maps.{apart, line_up, Map, size as size_of};
 ghost use Rattle.levels.specs.Numbering.{Holds, map_in};
 ghost use Rattle.maps.specs.Limits.{max_side};
 ghost use Rattle.maps.specs.Rows.{line};
+ghost use Rattle.maps.specs.Sizes.{Covers, HasPlaces};
 ghost use Rattle.building.specs.Steps.{BeginsParted, BeginsWith, ColumnsHalved, Copied, RowsHalved};
 
+use maps::HeightMap;
 use maps::quad::Quad;
 use maps::rows::halve_row;
+use maps::size::Size;
 use pairs::Pair;
 
 // The row at which the means of row y stand: those of even rows first, then those of odd ones. So a pair of rows that are
@@ -29,20 +32,21 @@ fn row_to(high: usize, y: usize) -> usize
 }
 
 // Each row of a map halved.
-fn halve_rows(src: &[i32], room: &mut [i32], wide: usize, high: usize)
-    requires size { (wide ≤ max_side) × (high ≤ max_side) }
-    requires lengths { (wide * high ≤ length src.now) × (wide * high ≤ length room.old) }
-    requires heights { (i : ℕ) → i < wide * high → Height (line src.now i) }
-    ensures { RowsHalved src.now room.old room.new wide high high }
+fn halve_rows(map: &[i32], room: &mut [i32], size: Size)
+    requires lengths { Covers size map.now × Covers size room.old }
+    requires heights { (i : ℕ) → i < size.wide * size.high → Height (line map.now i) }
+    ensures { RowsHalved map.now room.old room.new size.wide size.high size.high }
 {
-    let half = (wide + 1) / 2;
-    for y in 0..high {
-        let row = &src[y * wide..y * wide + wide];
+    let half = (size.wide + 1) / 2;
+    let pairs = size.wide / 2;
+    for y in 0..size.high {
+        let row = &map[y * size.wide..y * size.wide + size.wide];
+        let (means, differences) = room.split_at_mut(half * size.high);
+        let to = row_to(size.high, y) * half;
         halve_row(
             row,
-            room,
-            row_to(high, y) * half,
-            half * high + y * (wide / 2),
+            &mut means[to..to + half],
+            &mut differences[y * pairs..y * pairs + pairs],
         );
     }
 }
@@ -53,6 +57,7 @@ fn halve_columns(room: &mut [i32], out: &mut [i32], count: usize, pairs: usize)
     requires heights { (i : ℕ) → i < count + pairs → Height (line room.old i) }
     ensures { ColumnsHalved room.old room.new out.new count pairs }
 {
+    // by index, since upper and lower rows stand in one room
     for i in 0..pairs {
         let pair = Pair::of(room[i], room[count + i]);
         out[i] = pair.mean;
@@ -65,9 +70,7 @@ fn copy_rest(room: &[i32], out: &mut [i32], from: usize, end: usize)
     requires { (from ≤ end) × ((end ≤ length room.now) × (end ≤ length out.old)) }
     ensures { Copied room.now out.old out.new from end }
 {
-    for i in from..end {
-        out[i] = room[i];
-    }
+    out[from..end].copy_from_slice(&room[from..end]);
 }
 
 // The tower of a map of two by two: four heights by value become one, with what leads back.
@@ -75,65 +78,61 @@ fn put_quad(map: &[i32], room: &mut [i32])
     requires lengths { (4 ≤ length map.now) × (4 ≤ length room.old) }
     requires heights { (i : ℕ) → i < 4 → Height (line map.now i) }
     ensures rest { (i : ℕ) → 4 ≤ i → line room.new i ≡ line room.old i }
-    ensures holds { (k : ℕ) (p : Map) → size k 2 ≡ 1 → BeginsWith 2 2 map.now p → Holds k 2 2 room.new p }
+    ensures holds { (k : ℕ) (p : Map) → size_of k 2 ≡ 1 → BeginsWith 2 2 map.now p → Holds k 2 2 room.new p }
 {
     let quad = Quad::of(map[0], map[1], map[2], map[3]);
-    room[0] = quad.mean;
-    room[1] = quad.down;
-    room[2] = quad.upper;
-    room[3] = quad.lower;
+    room[0..4].copy_from_slice(&<[i32; 4]>::from(quad));
 }
 
 // The step across: the tower of the map that the scratch begins with, from its rows on. Nothing past it in the room is another.
 #[cycle(step_across_step_down)]
-fn step_across(room: &mut [i32], scratch: &mut [i32], wide: usize, high: usize)
-    requires size { (0 < wide) × ((wide ≤ max_side) × ((0 < high) × (high ≤ max_side))) }
-    requires lengths { (wide * high ≤ length room.old) × (wide * high ≤ length scratch.old) }
-    requires heights { (i : ℕ) → i < wide * high → Height (line scratch.old i) }
-    ensures rest { (i : ℕ) → wide * high ≤ i → line room.new i ≡ line room.old i }
-    ensures holds { (k : ℕ) (p : Map) → size k wide ≡ 1 → size k high ≡ 1 → BeginsWith wide high scratch.old p → Holds k wide high room.new p }
+fn step_across(room: &mut [i32], scratch: &mut [i32], size: Size)
+    requires some { HasPlaces size }
+    requires lengths { Covers size room.old × Covers size scratch.old }
+    requires heights { (i : ℕ) → i < size.wide * size.high → Height (line scratch.old i) }
+    ensures rest { (i : ℕ) → size.wide * size.high ≤ i → line room.new i ≡ line room.old i }
+    ensures holds { (k : ℕ) (p : Map) → size_of k size.wide ≡ 1 → size_of k size.high ≡ 1 → BeginsWith size.wide size.high scratch.old p → Holds k size.wide size.high room.new p }
 {
-    if wide + high == 2 {
+    if size.wide + size.high == 2 {
         room[0] = scratch[0];
-    } else if wide == 2 && high == 2 {
+    } else if size.wide == 2 && size.high == 2 {
         put_quad(scratch, room);
     } else {
-        halve_rows(scratch, room, wide, high);
-        step_down(room, scratch, wide, high);
+        halve_rows(scratch, room, size);
+        step_down(room, scratch, size);
     }
 }
 
 // The step down: the same from the means of the rows on, which the room begins with; the coarser map goes into the scratch.
 #[cycle(step_across_step_down)]
-fn step_down(room: &mut [i32], scratch: &mut [i32], wide: usize, high: usize)
-    requires size { (2 < wide + high) × ((0 < wide) × ((wide ≤ max_side) × ((0 < high) × (high ≤ max_side)))) }
-    requires lengths { ((wide + 1) / 2 * high ≤ length room.old) × ((wide + 1) / 2 * ((high + 1) / 2) ≤ length scratch.old) }
-    requires heights { (i : ℕ) → i < (wide + 1) / 2 * high → Height (line room.old i) }
-    ensures rest { (i : ℕ) → (wide + 1) / 2 * high ≤ i → line room.new i ≡ line room.old i }
-    ensures holds { (k : ℕ) (q : Map) → size k ((wide + 1) / 2) ≡ 1 → size k ((high + 1) / 2) ≡ 1 → BeginsParted ((wide + 1) / 2) high room.old q → Holds k ((wide + 1) / 2) ((high + 1) / 2) room.new (λ x y. line_up high (q x) y) }
-    ensures downs { (q : Map) → BeginsParted ((wide + 1) / 2) high room.old q → (x y : ℕ) → x < (wide + 1) / 2 → y < high / 2 → line room.new ((wide + 1) / 2 * ((high + 1) / 2) + (y * ((wide + 1) / 2) + x)) ≡ apart (q x) y }
+fn step_down(room: &mut [i32], scratch: &mut [i32], size: Size)
+    requires some { (2 < size.wide + size.high) × HasPlaces size }
+    requires lengths { ((size.wide + 1) / 2 * size.high ≤ length room.old) × ((size.wide + 1) / 2 * ((size.high + 1) / 2) ≤ length scratch.old) }
+    requires heights { (i : ℕ) → i < (size.wide + 1) / 2 * size.high → Height (line room.old i) }
+    ensures rest { (i : ℕ) → (size.wide + 1) / 2 * size.high ≤ i → line room.new i ≡ line room.old i }
+    ensures holds { (k : ℕ) (q : Map) → size_of k ((size.wide + 1) / 2) ≡ 1 → size_of k ((size.high + 1) / 2) ≡ 1 → BeginsParted ((size.wide + 1) / 2) size.high room.old q → Holds k ((size.wide + 1) / 2) ((size.high + 1) / 2) room.new (λ x y. line_up size.high (q x) y) }
+    ensures downs { (q : Map) → BeginsParted ((size.wide + 1) / 2) size.high room.old q → (x y : ℕ) → x < (size.wide + 1) / 2 → y < size.high / 2 → line room.new ((size.wide + 1) / 2 * ((size.high + 1) / 2) + (y * ((size.wide + 1) / 2) + x)) ≡ apart (q x) y }
 {
-    let half = (wide + 1) / 2;
-    let count = half * ((high + 1) / 2);
-    let pairs = half * (high / 2);
+    let half = (size.wide + 1) / 2;
+    let count = half * ((size.high + 1) / 2);
+    let pairs = half * (size.high / 2);
     halve_columns(room, scratch, count, pairs);
     copy_rest(room, scratch, pairs, count);
-    step_across(room, scratch, half, (high + 1) / 2);
+    step_across(room, scratch, size.up());
 }
 
-// The tower of a map of so many places across and down, its heights row by row, in a room of as many numbers.
-pub fn build(heights: &[i32], wide: usize, high: usize, room: &mut [i32])
-    requires size { (0 < wide) × ((wide ≤ max_side) × ((0 < high) × (high ≤ max_side))) }
-    requires lengths { (wide * high ≤ length heights.now) × (wide * high ≤ length room.old) }
-    requires range { (i : ℕ) → i < wide * high → Height (line heights.now i) }
-    ensures rest { (i : ℕ) → wide * high ≤ i → line room.new i ≡ line room.old i }
-    ensures holds { (k : ℕ) → size k wide ≡ 1 → size k high ≡ 1 → Holds k wide high room.new (map_in wide heights.now) }
+// The tower of a map, in a room of as many numbers.
+pub fn build(map: &HeightMap<'_>, room: &mut [i32])
+    requires some { HasPlaces map.now.size }
+    requires room { Covers map.now.size room.old }
+    ensures rest { (i : ℕ) → map.now.size.wide * map.now.size.high ≤ i → line room.new i ≡ line room.old i }
+    ensures holds { (k : ℕ) → size_of k map.now.size.wide ≡ 1 → size_of k map.now.size.high ≡ 1 → Holds k map.now.size.wide map.now.size.high room.new (map_in map.now.size.wide map.now.heights.now) }
 {
-    if wide + high == 2 {
-        room[0] = heights[0];
+    if map.size.wide + map.size.high == 2 {
+        room[0] = map.heights[0];
         return;
     }
-    let mut scratch = [0i32; 4096];
-    halve_rows(heights, room, wide, high);
-    step_down(room, &mut scratch, wide, high);
+    let mut scratch = [0; 4096];
+    halve_rows(map.heights, room, map.size);
+    step_down(room, &mut scratch, map.size);
 }

@@ -8,7 +8,7 @@
 --     joined              the map again, from the halved one and the differences
 --     level               the map halved so often; level 0 is the map itself
 --     with_height         the map with one height changed
-use Rattle.std.specs.Prelude.{ℕ, zero, suc, ◌+◌, ◌*◌, ◌/◌, Bool, cond, ◌&&◌, ℤ, ◌==◌, nat_lt}
+use Rattle.std.specs.Prelude.{ℕ, zero, suc, ◌+◌, ◌*◌, ◌/◌, Bool, if◌then◌else◌, ◌&&◌, ℤ, ◌==◌, nat_lt}
 use Rattle.pairs.specs.Pairs.{mean_of, difference_of, one_of}
 
 abbrev pub Map : Type 0
@@ -28,14 +28,14 @@ paired n i = nat_lt (2 * i + 1) n
 
 -- a pair goes up as its mean, a last place alone as it is
 unfoldable pub line_up : ℕ → (ℕ → ℤ) → ℕ → ℤ
-line_up n f i = cond (paired n i) (mean_of (f (2 * i)) (f (2 * i + 1))) (f (2 * i))
+line_up n f i = if paired n i then mean_of (f (2 * i)) (f (2 * i + 1)) else f (2 * i)
 
 unfoldable pub apart : (ℕ → ℤ) → ℕ → ℤ
 apart f i = difference_of (f (2 * i)) (f (2 * i + 1))
 
 -- the place x of a line of n, from what its pair went up as and the difference, if it has one
 unfoldable pub line_down : ℕ → ℕ → ℤ → ℤ → ℤ
-line_down n x m d = cond (paired n (x / 2)) (one_of x m d) m
+line_down n x m d = if paired n (x / 2) then one_of x m d else m
 
 -- rows first
 unfoldable pub means : ℕ → Map → Map
@@ -60,4 +60,4 @@ level zero w h p = p
 level (suc l) w h p = halved (size l w) (size l h) (level l w h p)
 
 unfoldable pub with_height : Map → ℕ → ℕ → ℤ → Map
-with_height p x y g u v = cond (u == x && v == y) g (p u v)
+with_height p x y g u v = if u == x && v == y then g else p u v

@@ -6,7 +6,7 @@
 --     Entry, number, index, There     a number of a tower by its place in it, its value, its index in the list, and that it is one of the tower's
 --     differences         how many differences the levels below the k-th have
 --     touched             the indices of the numbers that a change of one height can change
-use Rattle.std.specs.Prelude.{◌≡◌, ℕ, zero, suc, ◌+◌, ◌*◌, ◌/◌, ◌<◌, cond, List, [], ◌∷◌, ◌++◌, ℤ, pos, slice_index_or}
+use Rattle.std.specs.Prelude.{◌≡◌, ℕ, zero, suc, ◌+◌, ◌*◌, ◌/◌, ◌<◌, if◌then◌else◌, List, [], ◌∷◌, ◌++◌, ℤ, pos, slice_index_or}
 use Rattle.pairs.specs.Pairs.{Height}
 use Rattle.levels.specs.Maps.{Map, size, paired}
 use Rattle.levels.specs.Towers.{Tower, tower, SameTower}
@@ -64,6 +64,6 @@ differences (suc l) w h = differences l w h + (size (suc l) w * (size l h / 2) +
 unfoldable pub touched : (k w h x y : ℕ) → List ℕ
 touched zero w h x y = 0 ∷ []
 touched (suc k) w h x y =
-    cond (paired w (x / 2)) (across_index w h 0 (x / 2) y ∷ []) []
-    ++ (cond (paired h (y / 2)) (down_index w h 0 (x / 2) (y / 2) ∷ []) []
+    (if paired w (x / 2) then across_index w h 0 (x / 2) y ∷ [] else [])
+    ++ ((if paired h (y / 2) then down_index w h 0 (x / 2) (y / 2) ∷ [] else [])
     ++ touched k ((w + 1) / 2) ((h + 1) / 2) (x / 2) (y / 2))

@@ -4,7 +4,7 @@
 --     shown, at_level     the map that a tower shows so many levels below its top, and at a level
 --     levels              how often a map is halved until it is one place
 --     SameTower           two towers have the same numbers, wherever there are any
-use Rattle.std.specs.Prelude.{◌≡◌, ℕ, zero, suc, ◌+◌, ◌-◌, ◌/◌, ◌<◌, max, cond, ℤ, nat_le}
+use Rattle.std.specs.Prelude.{◌≡◌, ℕ, zero, suc, ◌+◌, ◌-◌, ◌/◌, ◌<◌, max, if◌then◌else◌, ℤ, nat_le}
 use Rattle.levels.specs.Maps.{Map, size, across, down, joined, level}
 
 -- the differences of a level lead to it from the next coarser one
@@ -26,7 +26,7 @@ at_level k w h t l = shown k w h t (k - l)
 -- a line of n places is halved at most n times
 unfoldable pub halvings : (most n : ℕ) → ℕ
 halvings zero n = 0
-halvings (suc f) n = cond (nat_le n 1) 0 (suc (halvings f ((n + 1) / 2)))
+halvings (suc f) n = if nat_le n 1 then 0 else suc (halvings f ((n + 1) / 2))
 
 unfoldable pub levels : (w h : ℕ) → ℕ
 levels w h = halvings (max w h) (max w h)

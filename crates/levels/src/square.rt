@@ -2,50 +2,36 @@
 ghost use Rattle.levels.specs.SquareLaws.{Between, BothTheSame, ChangesFew, PartIsTower, ShowsAll, ShowsHeld, WindowOnly};
 
 // Sizes, levels, towers, numbering and what is shown are those of any size.
-pub fn both_the_same() -> u8
+pub fn both_the_same()
     ensures { BothTheSame }
-{
-    0
-}
+{}
 
 // At every level the tower shows the map halved so often.
-pub fn shows_all() -> u8
+pub fn shows_all()
     ensures { ShowsAll }
-{
-    0
-}
+{}
 
 // So does any tower with the same numbers.
-pub fn shows_held() -> u8
+pub fn shows_held()
     ensures { ShowsHeld }
-{
-    0
-}
+{}
 
 // A place at a level lies between the least and the largest height of its square.
-pub fn between() -> u8
+pub fn between()
     ensures { Between }
-{
-    0
-}
+{}
 
 // A change of one height changes one difference across and one down of each level.
-pub fn changes_few() -> u8
+pub fn changes_few()
     ensures { ChangesFew }
-{
-    0
-}
+{}
 
 // What lies beside the squares of a place does not matter for it.
-pub fn window_only() -> u8
+pub fn window_only()
     ensures { WindowOnly }
-{
-    0
-}
+{}
 
 // The first numbers of a tower are the tower of the smaller map.
-pub fn part_is_tower() -> u8
+pub fn part_is_tower()
     ensures { PartIsTower }
-{
-    0
-}
+{}

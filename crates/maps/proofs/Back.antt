@@ -1,16 +1,15 @@
 -- A row from the means and the differences of its pairs. Assumes nothing.
-use Rattle.std.proofs.Common.{◌≡◌, ℕ, ◌+◌, ◌-◌, ◌*◌, ◌/◌, ◌%◌, ◌<◌, ◌≤◌, ◌≢◌, List, length, set, ℤ, pos, sym, ap, ◌∙◌, ⊎_elim, arith}
+use Rattle.std.proofs.Common.{◌≡◌, ℕ, ◌+◌, ◌-◌, ◌*◌, ◌/◌, ◌%◌, ◌<◌, ◌≤◌, List, length, set, ℤ, pos, sym, ap, ◌∙◌, ⊎_elim, arith}
 use borrow.Rule.Slice.PartMut.{put_mid}
 use Rattle.std.specs.List.{between}
 use Rattle.std.proofs.lemmas.List.Edits.{get_or-between}
 use Rattle.std.proofs.lemmas.List.{get_or-set_same, get_or-set_other}
-use Rattle.std.proofs.lemmas.Bool.{cases_eq, cases_lt}
+use Rattle.std.proofs.lemmas.Bool.{cases_lt}
 use Rattle.pairs.specs.Pairs.{Height, Difference, first_of, second_of, one_of}
 use Rattle.pairs.proofs.Half.{one_first, one_second}
 use Rattle.levels.proofs.Lines.{down_pair, down_last}
 use Rattle.maps.specs.Rows.{line, OneBack, PairsBack, RowBack}
 use Rattle.maps.proofs.Lent.{put_in, put_below, put_past}
-use Rattle.maps.proofs.Written.{first_put, second_put, neither_put}
 
 one_same : (x y : ℕ) (m d : ℤ) → x % 2 ≡ y % 2 → one_of x m d ≡ one_of y m d
 unfolding one_of
@@ -27,24 +26,15 @@ module _ (ms ds : List ℤ) (x i j : ℕ) (a : ℤ) where
   pub second_there : j ≡ i → x % 2 ≡ 1 → Is second_of ms ds i a → OneBack x ms ds j a
   second_there e odd f = rw e (λ hm hd. f hm hd ∙ sym (one_second x _ _ odd))
 
--- places from the first of a pair on
-module _ (ms ds row : List ℤ) (i : ℕ) where
-  -- one pair more
-  pub back_more : (a b : ℤ) → 2 * i + 1 < length row → Is first_of ms ds i a → Is second_of ms ds i b → PairsBack 0 (2 * i) ms ds row → PairsBack 0 (2 * (i + 1)) ms ds (set (set row (2 * i) a) (2 * i + 1) b)
-  back_more a b h fa fb o u j hu ej = ⊎_elim
-      (λ (q : u < 2 * i). rw (neither_put row (2 * i) (2 * i + 1) a b u (omega arith) (omega arith)) (o u j q ej))
-      (λ (q : 2 * i ≤ u). ⊎_elim
-      (λ (e : u ≡ 2 * i). rw e (rw (first_put row (2 * i) (2 * i + 1) a b (omega arith) (omega arith)) (first_there ms ds (0 + 2 * i) i j a (omega arith) (omega arith) fa)))
-      (λ (n : u ≢ 2 * i). let e : u ≡ 2 * i + 1 = omega arith in rw e (rw (second_put row (2 * i) (2 * i + 1) a b (omega arith)) (second_there ms ds (0 + (2 * i + 1)) i j b (omega arith) (omega arith) fb)))
-      (cases_eq u (2 * i)))
-      (cases_lt u (2 * i))
-
-  -- one place more, the first of its pair
-  pub back_first : (a : ℤ) → 2 * i < length row → Is first_of ms ds i a → PairsBack 0 (2 * i) ms ds row → PairsBack 0 (2 * i + 1) ms ds (set row (2 * i) a)
-  back_first a h fa o u j hu ej = ⊎_elim
-      (λ (q : u < 2 * i). rw (get_or-set_other row (2 * i) u a (pos 0) (omega arith)) (o u j q ej))
-      (λ (q : 2 * i ≤ u). let e : u ≡ 2 * i = omega arith in rw e (rw (get_or-set_same row (2 * i) a (pos 0) h) (first_there ms ds (0 + 2 * i) i j a (omega arith) (omega arith) fa)))
-      (cases_lt u (2 * i))
+-- places from the first of a pair on: one place more
+pub place_more : (ms ds row : List ℤ) (i : ℕ) (a : ℤ) → i < length row → (Height (line ms (i / 2)) → Difference (line ds (i / 2)) → a ≡ one_of i (line ms (i / 2)) (line ds (i / 2))) → PairsBack 0 i ms ds row → PairsBack 0 (i + 1) ms ds (set row i a)
+place_more ms ds row i a h fa o u j hu ej = ⊎_elim
+    (λ (q : u < i). rw (get_or-set_other row i u a (pos 0) (omega arith)) (o u j q ej))
+    (λ (q : i ≤ u).
+    let e : u ≡ i = omega arith in
+    let f : j ≡ i / 2 = omega arith in
+    rw (e, f) (λ hm hd. get_or-set_same row i a (pos 0) h ∙ fa hm hd ∙ one_same i (0 + i) _ _ (omega arith)))
+    (cases_lt u i)
 
 pub even_from : (x m : ℕ) (ms ds row : List ℤ) → x % 2 ≡ 0 → PairsBack 0 m ms ds row → PairsBack x m ms ds row
 even_from x m ms ds row even o i j hi ej hm hd = o i j hi (omega arith) hm hd ∙ one_same (0 + i) (x + i) _ _ (omega arith)

@@ -1,3 +1,4 @@
+mod Chunks
 pub mod Quads
 pub mod Written
 pub mod Lent

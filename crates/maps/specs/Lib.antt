@@ -1,3 +1,4 @@
 pub mod Limits
 pub mod Quads
 pub mod Rows
+pub mod Sizes

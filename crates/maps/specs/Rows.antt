@@ -1,21 +1,23 @@
 -- Rows of numbers, halved and back. Assumes nothing: these are definitions.
 --     line                a list as a line of numbers
---     RowHalved           a row's means and differences stand at their places, and the rest is as it was
+--     RowHalved           the means and the differences of a row; RowHalvedTo: of its first places
 --     OneBack             a number is the one of its pair that its place says
 --     PairsBack           places of whole pairs are what their means and differences lead back to
 --     RowBack             places of a row are, a last one alone too
-use Rattle.std.specs.Prelude.{◌≡◌, ℕ, ◌+◌, ◌*◌, ◌/◌, ◌%◌, ◌<◌, ◌≤◌, List, length, ℤ, pos, slice_index_or}
+use Rattle.std.specs.Prelude.{◌≡◌, ℕ, ◌+◌, ◌*◌, ◌/◌, ◌%◌, ◌<◌, List, length, ℤ, pos, slice_index_or}
 use Rattle.pairs.specs.Pairs.{Height, Difference, one_of}
 use Rattle.levels.specs.Maps.{line_up, apart, line_down}
 
 abbrev pub line : List ℤ → ℕ → ℤ
 line xs i = slice_index_or xs i (pos 0)
 
--- so far m means of a row stand from the index `to` on, and d differences from `beside` on; nothing beside their places is another
-pub record RowHalved (row was now : List ℤ) (to beside m d : ℕ) : Type 0 where
-  pub means : (k : ℕ) → k < m → line now (to + k) ≡ line_up (length row) (line row) k
-  pub across : (k : ℕ) → k < d → line now (beside + k) ≡ apart (line row) k
-  pub rest : (i : ℕ) → (to ≤ i → i < to + (length row + 1) / 2 → ⊥) → (beside ≤ i → i < beside + length row / 2 → ⊥) → line now i ≡ line was i
+-- so far m means of a row and d differences
+pub record RowHalvedTo (m d : ℕ) (row ms ds : List ℤ) : Type 0 where
+  pub means : (k : ℕ) → k < m → line ms k ≡ line_up (length row) (line row) k
+  pub across : (k : ℕ) → k < d → line ds k ≡ apart (line row) k
+
+abbrev pub RowHalved : (row means differences : List ℤ) → Type 0
+RowHalved row = RowHalvedTo ((length row + 1) / 2) (length row / 2) row
 
 -- r stands at the place x, in the pair j; of numbers that are no mean and difference of heights nothing is said
 abbrev pub OneBack : (x : ℕ) → (means differences : List ℤ) → (j : ℕ) → ℤ → Type 0

@@ -1,22 +1,26 @@
 // Maps that are lent, their limits, and what is done with their rows and quads.
 #![tactic(auto)]
 
-ghost use Rattle.std.specs.Prelude.{◌≡◌, ◌<◌, ◌≤◌, T, pos, MatchOption};
+ghost use Rattle.std.specs.Prelude.{◌≡◌, ℕ, ◌*◌, ◌<◌, ◌≤◌, IsTrue, length, pos, MatchOption};
 ghost use Rattle.pairs.specs.Pairs.{Height, max_height};
 ghost use Rattle.levels.specs.Maps.{power};
 ghost use Rattle.maps.specs.Limits.{max_k, max_side};
+ghost use Rattle.maps.specs.Rows.{line};
 
 mod lanes;
-pub mod layout;
 pub mod quad;
 pub mod rows;
+pub mod size;
 
-// A map that is lent: so many places across and down, and its heights row by row.
+use crate::size::Size;
+
+// A map that is lent: how large it is, and its heights row by row.
 #[derive(Clone, Copy)]
 pub struct HeightMap<'a> {
-    pub wide: usize,
-    pub high: usize,
+    pub size: Size,
     pub heights: &'a [i32],
+    ghost whole: { size.wide * size.high ≤ length heights.now },
+    ghost right: { (i : ℕ) → i < size.wide * size.high → Height (line heights.now i) },
 }
 
 impl HeightMap<'_> {
@@ -29,8 +33,8 @@ impl HeightMap<'_> {
 
     // Whether a number is a height.
     pub fn is_height(number: i32) -> bool
-        ensures holds { T result → Height number }
-        ensures all { Height number → T result }
+        ensures holds { IsTrue result → Height number }
+        ensures all { Height number → IsTrue result }
     {
         0 <= number && number <= Self::MAX_HEIGHT
     }

@@ -51,3 +51,12 @@ impl Quad {
         [upper.first(), upper.second(), lower.first(), lower.second()]
     }
 }
+
+// The order of a tower.
+impl From<Quad> for [i32; 4] {
+    ghost from_gives = { λ q ns. ns ≡ numbers q };
+
+    fn from(quad: Quad) -> [i32; 4] {
+        [quad.mean, quad.down, quad.upper, quad.lower]
+    }
+}

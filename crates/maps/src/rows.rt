@@ -1,25 +1,25 @@
 // A row one level up, and back.
-ghost use Rattle.std.specs.Prelude.{ℕ, ◌+◌, ◌-◌, ◌*◌, ◌/◌, ◌%◌, ◌<◌, ◌≤◌, min, length};
+ghost use Rattle.std.specs.Prelude.{◌≡◌, ℕ, ◌+◌, ◌-◌, ◌*◌, ◌/◌, ◌%◌, ◌<◌, ◌≤◌, min, length};
 ghost use Rattle.pairs.specs.Pairs.{Height};
 ghost use Rattle.maps.specs.Rows.{line, PairsBack, RowBack, RowHalved};
 
 use crate::lanes::four_back;
 use pairs::Pair;
 
-// A row of heights halved: the means of its pairs, and a last place alone, are written from `to` on, the differences from `beside` on.
-pub fn halve_row(row: &[i32], room: &mut [i32], to: usize, beside: usize)
-    requires parts { (to + (length row.now + 1) / 2 ≤ beside) × (beside + length row.now / 2 ≤ length room.old) }
+// A row of heights halved: the means of its pairs, and a last place alone, and the differences of its pairs.
+pub fn halve_row(row: &[i32], means: &mut [i32], differences: &mut [i32])
+    requires lengths { (length means.old ≡ (length row.now + 1) / 2) × (length differences.old ≡ length row.now / 2) }
     requires heights { (i : ℕ) → i < length row.now → Height (line row.now i) }
-    ensures { RowHalved row.now room.old room.new to beside ((length row.now + 1) / 2) (length row.now / 2) }
+    ensures { RowHalved row.now means.new differences.new }
 {
-    let pairs = row.len() / 2;
-    for i in 0..pairs {
-        let pair = Pair::of(row[2 * i], row[2 * i + 1]);
-        room[to + i] = pair.mean;
-        room[beside + i] = pair.difference;
+    let (pairs, last) = row.as_chunks::<2>();
+    for (i, &[left, right]) in pairs.iter().enumerate() {
+        let pair = Pair::of(left, right);
+        means[i] = pair.mean;
+        differences[i] = pair.difference;
     }
-    if row.len() % 2 == 1 {
-        room[to + pairs] = row[2 * pairs];
+    if let Some(&alone) = last.first() {
+        means[pairs.len()] = alone;
     }
 }
 
@@ -70,6 +70,7 @@ fn even_back(means: &[i32], differences: &[i32], row: &mut [i32])
 {
     let w = row.len();
     let fours = w / 8;
+    // by index, since nothing is known of a slice that was written through its `chunks_exact_mut` or `as_chunks_mut`
     for i in 0..fours {
         four_back(
             &means[4 * i..4 * i + 4],
@@ -84,25 +85,16 @@ fn even_back(means: &[i32], differences: &[i32], row: &mut [i32])
     );
 }
 
-// The same, one pair after the other.
+// The same, one place after the other.
 fn rest_back(means: &[i32], differences: &[i32], row: &mut [i32])
     requires { (length row.old ≤ 2 * length means.now) × (length row.old ≤ 2 * length differences.now) }
     ensures { PairsBack 0 (length row.old) means.now differences.now row.new }
 {
-    let pairs = row.len() / 2;
-    for i in 0..pairs {
+    for (i, place) in row.iter_mut().enumerate() {
         let pair = Pair {
-            mean: means[i],
-            difference: differences[i],
+            mean: means[i / 2],
+            difference: differences[i / 2],
         };
-        row[2 * i] = pair.first();
-        row[2 * i + 1] = pair.second();
-    }
-    if row.len() % 2 == 1 {
-        let pair = Pair {
-            mean: means[pairs],
-            difference: differences[pairs],
-        };
-        row[2 * pairs] = pair.first();
+        *place = pair.one(i);
     }
 }

@@ -4,7 +4,7 @@
 --     mean_of, difference_of     what a pair becomes: its mean, rounded down, and the left less the right
 --     first_of, second_of, one_of     the pair again, from its mean and its difference, and the one of it at a place
 --     BothBack            the law of a pair
-use Rattle.std.specs.Prelude.{◌≡◌, ℕ, ◌/◌, ◌%◌, cond, ℤ, pos, negsuc, ◌+ℤ◌, ◌-ℤ◌, neg_ℤ, ◌≤ℤ◌, ◌==◌}
+use Rattle.std.specs.Prelude.{◌≡◌, ℕ, ◌/◌, ◌%◌, if◌then◌else◌, ℤ, pos, negsuc, ◌+ℤ◌, ◌-ℤ◌, neg_ℤ, ◌≤ℤ◌, ◌==◌}
 
 abbrev pub max_height : ℕ
 max_height = 65535
@@ -33,7 +33,7 @@ second_of m d = first_of m d -ℤ d
 
 -- the first stands at an even place, the second at the odd one after it
 unfoldable pub one_of : ℕ → ℤ → ℤ → ℤ
-one_of x m d = cond (x % 2 == 0) (first_of m d) (second_of m d)
+one_of x m d = if x % 2 == 0 then first_of m d else second_of m d
 
 -- mean and difference give back both, of any two numbers
 abbrev pub BothBack : Type 0

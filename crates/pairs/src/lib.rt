@@ -1,9 +1,9 @@
 // Two heights become their mean and their difference, and come back.
 #![tactic(auto)]
 
-ghost use Rattle.std.specs.Prelude.{◌≡◌, pos, ◌+ℤ◌, ◌-ℤ◌};
+ghost use Rattle.std.specs.Prelude.{◌≡◌, ◌%◌, pos, ◌+ℤ◌, ◌-ℤ◌};
 ghost use Rattle.std.specs.Int.{int_wrap, w32};
-ghost use Rattle.pairs.specs.Pairs.{BothBack, Difference, difference_of, first_of, half, Height, mean_of, second_of};
+ghost use Rattle.pairs.specs.Pairs.{BothBack, Difference, difference_of, first_of, half, Height, mean_of, one_of, second_of};
 
 // What two heights become. Numbers that are no heights wrap around at 32 bits, and do no harm.
 #[derive(Clone, Copy)]
@@ -41,6 +41,19 @@ impl Pair {
     {
         self.first().wrapping_sub(self.difference)
     }
+
+    // The one that stands at a place of a line: the first at an even place, the second at an odd one.
+    pub fn one(self, place: usize) -> i32
+        ensures first { place % 2 ≡ 0 → result ≡ int_wrap w32 (self.mean +ℤ half (int_wrap w32 (self.difference +ℤ pos 1))) }
+        ensures second { place % 2 ≡ 1 → result ≡ int_wrap w32 (self.mean +ℤ half (int_wrap w32 (self.difference +ℤ pos 1)) -ℤ self.difference) }
+        ensures exact { Height self.mean → Difference self.difference → result ≡ one_of place self.mean self.difference }
+    {
+        if place % 2 == 0 {
+            self.first()
+        } else {
+            self.second()
+        }
+    }
 }
 
 // Half of a number, rounded toward what is smaller.
@@ -51,8 +64,6 @@ fn halve(x: i32) -> i32
 }
 
 // Mean and difference give back both heights.
-pub fn both_back() -> u8
+pub fn both_back()
     ensures { BothBack }
-{
-    0
-}
+{}

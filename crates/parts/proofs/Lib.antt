@@ -4,3 +4,4 @@ pub mod Cut
 pub mod Again
 pub mod Gaps
 pub mod Filling
+mod Details

@@ -1,6 +1,6 @@
 -- The refusals, check by check. Assumes nothing.
-use Rattle.std.proofs.Common.{◌≡◌, ℕ, ◌+◌, ◌-◌, ◌<◌, ◌≤◌, min, List, ℤ, Some, None}
-use Rattle.std.proofs.lemmas.Bool.{lt-ltb, le-ltb, le-leb, lt-leb, eq-eqb, ne_eqb}
+use Rattle.std.proofs.Common.{◌≡◌, ℕ, ◌+◌, ◌-◌, ◌<◌, ◌≤◌, min, List, ℤ, Some, None, refl, ⊎_elim, arith}
+use Rattle.std.proofs.lemmas.Bool.{lt-ltb, le-ltb, le-leb, lt-leb, eq-eqb, ne_eqb, cases_lt}
 use Rattle.refusals.specs.declared.Refusal.TheVariants.{TooManyLevels, WrongNumber, WrongRoom, NoSuchLevel}
 use Rattle.tower.specs.Checks.{places}
 use Rattle.parts.specs.Parts.{coarse_refusal, detail_refusal, join_refusal, parts_wrong, assemble_refusal}
@@ -10,18 +10,10 @@ module _ (k n l : ℕ) where
   unfolding coarse_refusal
   coarse_levels h = rw (lt-ltb 7 k h)
 
-  pub detail_levels : 7 < k → detail_refusal k n l ≡ Some (TooManyLevels k)
-  unfolding detail_refusal
-  detail_levels h = rw (lt-ltb 7 k h)
-
   module _ (hk : k ≤ 7) (m : ℕ) (e : m ≡ places k) where
     pub coarse_number : (n ≡ m → ⊥) → coarse_refusal k n l ≡ Some (WrongNumber (min n m))
     unfolding coarse_refusal
     coarse_number ne = rw (le-ltb 7 k hk, e, ne_eqb n (places k) (rw e at ne))
-
-    pub detail_number : (n ≡ m → ⊥) → detail_refusal k n l ≡ Some (WrongNumber (min n m))
-    unfolding detail_refusal
-    detail_number ne = rw (le-ltb 7 k hk, e, ne_eqb n (places k) (rw e at ne))
 
     module _ (q : n ≡ m) where
       pub coarse_level : k < l → coarse_refusal k n l ≡ Some NoSuchLevel
@@ -32,13 +24,16 @@ module _ (k n l : ℕ) where
       unfolding coarse_refusal
       coarse_taken h = rw (le-ltb 7 k hk, eq-eqb n (places k) (rw e at q), le-ltb k l h)
 
-      pub detail_level : k ≤ l → detail_refusal k n l ≡ Some NoSuchLevel
-      unfolding detail_refusal
-      detail_level h = rw (le-ltb 7 k hk, eq-eqb n (places k) (rw e at q), le-leb k l h)
-
-      pub detail_taken : l < k → detail_refusal k n l ≡ None
-      unfolding detail_refusal
-      detail_taken h = rw (le-ltb 7 k hk, eq-eqb n (places k) (rw e at q), lt-leb k l h)
+-- a detail is there where the coarse part for the next level is
+pub detail_is_coarse : (k n l m : ℕ) → (k ≤ 7 → k < m → k ≤ l) → (k ≤ 7 → k ≤ l → k < m) → detail_refusal k n l ≡ coarse_refusal k n m
+unfolding detail_refusal coarse_refusal
+detail_is_coarse k n l m f g = ⊎_elim
+    (λ (b : k < 8). ⊎_elim
+    (λ (c : k < m). rw (lt-ltb k m c, le-leb k l (f (omega arith) c)) refl)
+    (λ (c : m ≤ k). let d : l < k = ⊎_elim (λ (e : l < k). e) (λ (e : k ≤ l). absurd (let z = g (omega arith) e in omega arith)) (cases_lt l k) in rw (le-ltb k m c, lt-leb k l d) refl)
+    (cases_lt k m))
+    (λ (b : 8 ≤ k). let c : 7 < k = omega arith in rw (lt-ltb 7 k c) refl)
+    (cases_lt k 8)
 
 module _ (k c d n : ℕ) where
   pub join_levels : 7 < k → join_refusal k c d n ≡ Some (TooManyLevels k)

@@ -12,8 +12,10 @@ pub record PlacesOf (k n : ℕ) : Type 0 where
 
 -- n is how many places the level has
 pub record CanHand (k tower l n : ℕ) : Type 0 where
+  pub levels : k ≤ max_k
   pub level : l ≤ k
   pub value : n ≡ places (k - l)
+  pub whole : tower ≡ places k
   pub within : n ≤ tower
 
 -- n is how many places the next coarser level has

@@ -8,7 +8,7 @@
 --     Handed              a part is handed back, or a part of none
 --     Assembled           all parts put together are the tower
 --     contents, joined    what lent parts hold, and that one after the other
-use Rattle.std.specs.Prelude.{◌≡◌, ℕ, zero, suc, ◌+◌, ◌-◌, ◌<◌, min, cond, not, List, [], ◌∷◌, ◌++◌, length, take, ℤ, Some, None, Option, ◌==◌, nat_le, nat_lt, slice_index_or}
+use Rattle.std.specs.Prelude.{◌≡◌, ℕ, zero, suc, ◌+◌, ◌-◌, ◌<◌, min, if◌then◌else◌, not, List, [], ◌∷◌, ◌++◌, length, take, ℤ, Some, None, Option, ◌==◌, nat_le, nat_lt, slice_index_or}
 use Rattle.std.specs.Borrow.{Bor}
 use Rattle.std.specs.List.{between}
 use Rattle.levels.specs.Maps.{Map, power, level}
@@ -72,8 +72,9 @@ part_size j = places j - begins j
 
 -- the first place of the tower, from the j-th part on, that is missing or too many
 unfoldable pub parts_wrong : (k j : ℕ) → List (List ℤ) → Option ℕ
-parts_wrong k j [] = cond (nat_le j k) (Some (begins j)) None
-parts_wrong k j (t ∷ ts) = cond (nat_le j k) (cond (length t == part_size j) (parts_wrong k (suc j) ts) (Some (begins j + min (length t) (part_size j)))) (Some (places k))
+parts_wrong k j [] = if nat_le j k then Some (begins j) else None
+parts_wrong k j (t ∷ ts) =
+    if nat_le j k then (if length t == part_size j then parts_wrong k (suc j) ts else Some (begins j + min (length t) (part_size j))) else Some (places k)
 
 -- what a list of lent parts holds, one part after the other
 unfoldable pub contents : List (Bor (List ℤ)) → List (List ℤ)

@@ -14,13 +14,13 @@ fn find_gap(k: u64, parts: &[&[i32]]) -> Option<usize>
 {
     let mut begin: usize = 0;
     let mut end: usize = 1;
-    for j in 0..parts.len() {
+    for (j, part) in parts.iter().enumerate() {
         if j as u64 > k {
             return Some(begin);
         }
         let size = end - begin;
-        if parts[j].len() != size {
-            return Some(begin + parts[j].len().min(size));
+        if part.len() != size {
+            return Some(begin + part.len().min(size));
         }
         begin = end;
         end = 4 * end;
@@ -38,16 +38,16 @@ fn put_all(parts: &[&[i32]], room: &mut [i32])
     ensures { room.new ≡ joined (contents parts.now) }
 {
     let mut at: usize = 0;
-    for j in 0..parts.len() {
-        let end = at + parts[j].len();
-        room[at..end].copy_from_slice(parts[j]);
+    for part in parts {
+        let end = at + part.len();
+        room[at..end].copy_from_slice(part);
         at = end;
     }
 }
 
 // The tower of k levels from all its parts in order: the top, and then the details, the coarsest first.
 pub fn assemble(k: u64, parts: &[&[i32]], room: &mut [i32]) -> Result<(), Refusal>
-    ensures { Answered (assemble_refusal k (contents parts.now) (length room.old)) result room.old room.new (Assembled k (contents parts.now) room.new) }
+    ensures { Answered (assemble_refusal k (contents parts.now) (length room.old)) result tt room.old room.new (Assembled k (contents parts.now) room.new) }
 {
     let whole = places_of(k)?;
     if let Some(place) = find_gap(k, parts) {

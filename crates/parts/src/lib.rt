@@ -46,17 +46,11 @@ pub fn coarse<'a>(k: u64, tower: &'a [i32], level: u64) -> &'a [i32]
     }
 }
 
-// What `detail` asks: how many numbers stand before the part.
+// What `detail` asks: how many numbers stand before the part, which are the coarse part for the next level.
 pub fn check_detail(k: u64, tower: usize, level: u64) -> Result<usize, Refusal>
     ensures { MatchResult result (λ n. (detail_refusal k tower level ≡ None) × CanDetail k tower level n) (λ e. detail_refusal k tower level ≡ Some e) }
 {
-    let whole = places_of(k)?;
-    check_length(tower, whole)?;
-    if level >= k {
-        return Err(Refusal::NoSuchLevel);
-    }
-    let before = places_of(k - level - 1)?;
-    Ok(before)
+    check_coarse(k, tower, level.saturating_add(1))
 }
 
 // The detail part for a level: the numbers that lead to it from the next coarser one. A part of none where there is none.
@@ -91,7 +85,7 @@ fn check_join(k: u64, coarse: usize, detail: usize, room: usize) -> Result<usize
 
 // The tower of k levels from its coarse part, of one level less, and the detail that leads on from there.
 pub fn join(k: u64, coarse: &[i32], detail: &[i32], room: &mut [i32]) -> Result<(), Refusal>
-    ensures { Answered (join_refusal k (length coarse.now) (length detail.now) (length room.old)) result room.old room.new (Joined k coarse.now detail.now room.new) }
+    ensures { Answered (join_refusal k (length coarse.now) (length detail.now) (length room.old)) result tt room.old room.new (Joined k coarse.now detail.now room.new) }
 {
     let part = check_join(k, coarse.len(), detail.len(), room.len())?;
     room[0..part].copy_from_slice(coarse);
@@ -100,15 +94,11 @@ pub fn join(k: u64, coarse: &[i32], detail: &[i32], room: &mut [i32]) -> Result<
 }
 
 // A tower taken apart and put together again is the same.
-pub fn together_again() -> u8
+pub fn together_again()
     ensures { TogetherAgain }
-{
-    0
-}
+{}
 
 // A window of a coarse part is one of the whole, so many levels on.
-pub fn same_windows() -> u8
+pub fn same_windows()
     ensures { SameWindows }
-{
-    0
-}
+{}

@@ -1,8 +1,9 @@
 -- A place of a line above the mean of its pair, and a place of a map above the one it comes to a level up. Assumes nothing.
-use Rattle.std.proofs.Common.{◌≡◌, ℕ, ◌+◌, ◌*◌, ◌/◌, ◌%◌, ◌<◌, ◌≤◌, ℤ, pos, ◌+ℤ◌, sym, ap, ◌∙◌, arith, w32, SFits}
+use Rattle.std.proofs.Common.{◌≡◌, ℕ, ◌+◌, ◌*◌, ◌/◌, ◌%◌, ◌<◌, ◌≤◌, ℤ, pos, ◌+ℤ◌, sym, ap, ◌∙◌, ⊎_elim, arith, w32, SFits}
 use borrow.Author.Differences.{ints}
 use Rattle.std.specs.Int.{int_wrap}
 use Rattle.std.proofs.lemmas.Int.{int_wrap-add_right, int_wrap_fits}
+use Rattle.std.proofs.lemmas.Bool.{cases_eq}
 use Rattle.pairs.specs.Pairs.{Difference, Height, first_of, one_of, second_of}
 use Rattle.pairs.proofs.Half.{one_first, one_second}
 use Rattle.levels.specs.Maps.{line_up, apart}
@@ -10,13 +11,12 @@ use Rattle.levels.proofs.Lines.{down_pair, down_last, line_back, apart_differenc
 use Rattle.places.specs.Lines.{Heights}
 
 -- what a difference adds does not depend on the mean
-first_above : (m d : ℤ) → first_of m d ≡ m +ℤ first_of (pos 0) d
-unfolding first_of
-first_above m d = omega (arith, ints)
-
-second_above : (m d : ℤ) → second_of m d ≡ m +ℤ second_of (pos 0) d
+one_above : (x : ℕ) (m d : ℤ) → one_of x m d ≡ m +ℤ one_of x (pos 0) d
 unfolding first_of second_of
-second_above m d = omega (arith, ints)
+one_above x m d = ⊎_elim
+    (λ (e : x % 2 ≡ 0). rw (one_first x m d e, one_first x (pos 0) d e) (omega (arith, ints)))
+    (λ (n : x % 2 ≡ 0 → ⊥). let o : x % 2 ≡ 1 = omega arith in rw (one_second x m d o, one_second x (pos 0) d o) (omega (arith, ints)))
+    (cases_eq (x % 2) 0)
 
 -- any place of a line of heights
 module _ (n : ℕ) (f : ℕ → ℤ) (x : ℕ) (hx : x < n) where
@@ -32,11 +32,8 @@ module _ (n : ℕ) (f : ℕ → ℤ) (x : ℕ) (hx : x < n) where
     back : f x ≡ one_of x (line_up n f (x / 2)) d
     back = rw ed (sym (line_back n f x hx) ∙ down_pair n x (line_up n f (x / 2)) (apart f (x / 2)) whole)
 
-    pub first_rises : x % 2 ≡ 0 → (Height (pos 0) → Difference d → r ≡ first_of (pos 0) d) → f x ≡ line_up n f (x / 2) +ℤ r
-    first_rises even e = rw (e (omega (arith, ints)) is_difference) (back ∙ one_first x _ d even ∙ first_above _ d)
-
-    pub second_rises : (x % 2 ≡ 0 → ⊥) → (Height (pos 0) → Difference d → r ≡ second_of (pos 0) d) → f x ≡ line_up n f (x / 2) +ℤ r
-    second_rises odd e = rw (e (omega (arith, ints)) is_difference) (back ∙ one_second x _ d (omega arith) ∙ second_above _ d)
+    pub one_rises : (Height (pos 0) → Difference d → r ≡ one_of x (pos 0) d) → f x ≡ line_up n f (x / 2) +ℤ r
+    one_rises e = rw (e (omega (arith, ints)) is_difference) (back ∙ one_above x _ d)
 
 -- both rises of a level together: heights do not wrap
 pub level_rises : (g m q a d : ℤ) → Height g → Height q → g ≡ m +ℤ a → m ≡ q +ℤ d → g ≡ q +ℤ int_wrap w32 (a +ℤ d)

@@ -1,18 +1,51 @@
-// The height at one place of a map, from the numbers of its tower.
+// A place of a map, and the height there, from the numbers of the map's tower.
 #![tactic(auto)]
 
-ghost use Rattle.std.specs.Prelude.{◌≡◌, ℕ, suc, ◌+◌, ◌*◌, ◌/◌, ◌<◌, ◌≤◌, length, ℤ, ◌+ℤ◌};
+ghost use Rattle.std.specs.Prelude.{◌≡◌, ℕ, suc, ◌+◌, ◌*◌, ◌/◌, ◌<◌, ◌≤◌, ◌==◌, length, ℤ, ◌+ℤ◌};
 ghost use Rattle.levels.specs.Maps.{halved, line_up, Map};
 ghost use Rattle.levels.specs.Numbering.{Holds};
+ghost use Rattle.maps.specs.Limits.{max_side};
+ghost use Rattle.maps.specs.Sizes.{Covers};
 ghost use Rattle.places.specs.Lines.{DifferenceAt, Heights};
 
-use maps::layout::{across_at, down_at};
+use maps::size::Size;
 use pairs::Pair;
+
+// So far across and so far down a map of that size.
+#[derive(Clone, Copy)]
+pub struct Place {
+    pub size: Size,
+    pub x: usize,
+    pub y: usize,
+    ghost across: { x < size.wide },
+    ghost down: { y < size.high },
+}
+
+impl Place {
+    // The place one level up that it is a part of.
+    pub fn up(self) -> Place
+        ensures size { (result.size.wide ≡ (self.size.wide + 1) / 2) × (result.size.high ≡ (self.size.high + 1) / 2) }
+        ensures place { (result.x ≡ self.x / 2) × (result.y ≡ self.y / 2) }
+    {
+        Place {
+            size: self.size.up(),
+            x: self.x / 2,
+            y: self.y / 2,
+        }
+    }
+
+    // Whether its map has no other place.
+    pub fn is_alone(self) -> bool
+        ensures { result ≡ (self.size.wide + self.size.high == 2) }
+    {
+        self.size.wide + self.size.high == 2
+    }
+}
 
 // What the place x of a line is above the mean of its pair: what it is above a mean of 0, by the difference, which stands at an
 // index. A last place alone went up as it is.
 fn line_rise(tower: &[i32], places: usize, x: usize, index: usize) -> i32
-    requires place { (x < places) × (places ≤ 128) }
+    requires place { (x < places) × (places ≤ max_side) }
     requires room { 2 * (x / 2) + 1 < places → index < length tower.now }
     ensures { (f : ℕ → ℤ) → Heights places f → DifferenceAt places f x tower.now index → f x ≡ line_up places f (x / 2) +ℤ result }
 {
@@ -23,39 +56,29 @@ fn line_rise(tower: &[i32], places: usize, x: usize, index: usize) -> i32
         mean: 0,
         difference: tower[index],
     };
-    if x % 2 == 0 {
-        pair.first()
-    } else {
-        pair.second()
-    }
+    pair.one(x)
 }
 
 // What a place of a map is above its place one level up.
-fn rise(tower: &[i32], wide: usize, high: usize, x: usize, y: usize) -> i32
-    requires size { (wide ≤ 128) × (high ≤ 128) }
-    requires place { (x < wide) × (y < high) }
-    requires room { wide * high ≤ length tower.now }
-    ensures { (k : ℕ) (p : Map) → Holds (suc k) wide high tower.now p → p x y ≡ halved wide high p (x / 2) (y / 2) +ℤ result }
+fn rise(tower: &[i32], place: Place) -> i32
+    requires { Covers place.size tower.now }
+    ensures { (k : ℕ) (p : Map) → Holds (suc k) place.size.wide place.size.high tower.now p → p place.x place.y ≡ halved place.size.wide place.size.high p (place.x / 2) (place.y / 2) +ℤ result }
 {
-    let across = line_rise(tower, wide, x, across_at(wide, high, x / 2, y));
-    let down = line_rise(tower, high, y, down_at(wide, high, x / 2, y / 2));
+    let Place { size, x, y } = place;
+    let across = line_rise(tower, size.wide, x, size.across_at(x / 2, y));
+    let down = line_rise(tower, size.high, y, size.down_at(x / 2, y / 2));
     across.wrapping_add(down)
 }
 
 // The height at a place of a map, from the numbers that begin with its tower: the top, and what the place is above it level by level.
-pub fn height_at(tower: &[i32], mut wide: usize, mut high: usize, mut x: usize, mut y: usize) -> i32
-    requires size { (wide ≤ 128) × (high ≤ 128) }
-    requires place { (x < wide) × (y < high) }
-    requires room { wide * high ≤ length tower.now }
-    ensures { (k : ℕ) (p : Map) → Holds k wide high tower.now p → result ≡ p x y }
+pub fn height_at(tower: &[i32], mut place: Place) -> i32
+    requires { Covers place.size tower.now }
+    ensures { (k : ℕ) (p : Map) → Holds k place.size.wide place.size.high tower.now p → result ≡ p place.x place.y }
 {
     let mut above: i32 = 0;
-    while wide + high > 2 {
-        above = above.wrapping_add(rise(tower, wide, high, x, y));
-        wide = (wide + 1) / 2;
-        high = (high + 1) / 2;
-        x /= 2;
-        y /= 2;
+    while !place.is_alone() {
+        above = above.wrapping_add(rise(tower, place));
+        place = place.up();
     }
     above.wrapping_add(tower[0])
 }

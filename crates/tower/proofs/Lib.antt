@@ -1,3 +1,4 @@
+pub mod Sides
 pub mod Together
 pub mod Wrong
 pub mod Order

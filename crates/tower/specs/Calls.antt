@@ -2,7 +2,6 @@
 --     IsTowerOf           a list is the tower of a map, in words without sizes
 --     BuiltTower, ShownWindow, ChangedTower     what a call that is taken leaves, in the words of any size and in those of 2^k by 2^k places
 --     Answered            a call answers its refusal and changes nothing, or is taken
---     Entered             the same of an entry, which answers the refusal's number
 use Rattle.std.specs.Prelude.{◌≡◌, ℕ, ◌+◌, ◌*◌, ◌<◌, ◌≤◌, List, length, ℤ, pos, Some, None, Ok, Err, Option, Result}
 use Rattle.std.specs.List.{ContainsAt}
 use Rattle.pairs.specs.Pairs.{Height}
@@ -11,10 +10,7 @@ use Rattle.levels.specs.Numbering.{Holds, map_in, touched}
 use Rattle.levels.specs.Square as Square
 use Rattle.maps.specs.Rows.{line}
 use Rattle.refusals.specs.declared.Refusal.{Refusal}
-use Rattle.refusals.specs.Refusals.{number}
 use Rattle.tower.specs.Checks.{places}
-use Rattle.tower.specs.declared.Done.{Done}
-use Rattle.tower.specs.declared.Done.TheVariants.{Refused}
 
 -- the numbers are those of the tower of a map of heights
 pub record IsTowerOf (k : ℕ) (ts : List ℤ) (p : Map) : Type 0 where
@@ -41,11 +37,7 @@ pub record ChangedTower (k : ℕ) (ts : List ℤ) (x y g : ℕ) (after : List �
   pub holds : (p : Map) → Holds k (power k) (power k) ts p → Holds k (power k) (power k) after (with_height p x y (pos g))
   pub square : (p : Map) → IsTowerOf k ts p → IsTowerOf k after (with_height p x y (pos g))
 
--- the room or the tower was the one list and is the other
-abbrev pub Answered : Option Refusal → Result (Unit {0}) Refusal → (was after : List ℤ) → (taken : Type 0) → Type 0
-Answered (Some e) r was after taken = (r ≡ Err e) × (after ≡ was)
-Answered None r was after taken = (r ≡ Ok tt) × taken
-
-abbrev pub Entered : Option Refusal → (answer taken_as : Done) → (was after : List ℤ) → (taken : Type 0) → Type 0
-Entered (Some e) r d was after taken = (r ≡ Refused (number e)) × (after ≡ was)
-Entered None r d was after taken = (r ≡ d) × taken
+-- done is what a call answers that is taken; the room or the tower was the one list and is the other
+abbrev pub Answered : {X : Type 0} → Option Refusal → (answer : Result X Refusal) → (done : X) → (was after : List ℤ) → (taken : Type 0) → Type 0
+Answered (Some e) r d was after taken = (r ≡ Err e) × (after ≡ was)
+Answered None r d was after taken = (r ≡ Ok d) × taken

@@ -3,7 +3,7 @@
 --     is_height, first_wrong     a height; the first place of a map that is missing, too many or no height
 --     is_on_side          a stretch of places, from one on, lies within a side
 --     build_refusal, window_refusal, change_refusal     the refusal of a call, or none
-use Rattle.std.specs.Prelude.{ℕ, zero, suc, ◌+◌, ◌-◌, ◌*◌, min, Bool, false, cond, not, ◌&&◌, List, [], ◌∷◌, ℤ, pos, negsuc, Some, None, Option, ◌==◌, nat_le, nat_lt}
+use Rattle.std.specs.Prelude.{ℕ, zero, suc, ◌+◌, ◌-◌, ◌*◌, min, Bool, false, if◌then◌else◌, not, ◌&&◌, List, [], ◌∷◌, ℤ, pos, negsuc, Some, None, Option, ◌==◌, nat_le, nat_lt}
 use Rattle.pairs.specs.Pairs.{max_height}
 use Rattle.levels.specs.Maps.{power}
 use Rattle.maps.specs.Limits.{max_k}
@@ -23,7 +23,7 @@ unfoldable pub first_wrong : (n at : ℕ) → List ℤ → Option ℕ
 first_wrong zero at [] = None
 first_wrong zero at (z ∷ zs) = Some at
 first_wrong (suc n) at [] = Some at
-first_wrong (suc n) at (z ∷ zs) = cond (is_height z) (first_wrong n (suc at) zs) (Some at)
+first_wrong (suc n) at (z ∷ zs) = if is_height z then first_wrong n (suc at) zs else Some at
 
 abbrev pub wrong_at : Option ℕ → Option Refusal → Option Refusal
 wrong_at (Some at) later = Some (WrongNumber at)

@@ -1,5 +1,5 @@
 // The checks of the calls, in their order. Each gives what is then known.
-ghost use Rattle.std.specs.Prelude.{◌≡◌, ℕ, ◌+◌, ◌-◌, ◌*◌, ◌<◌, ◌≤◌, min, ◌&&◌, T, length, ℤ, Some, None, MatchResult, ◌≢◌};
+ghost use Rattle.std.specs.Prelude.{◌≡◌, ℕ, ◌+◌, ◌-◌, ◌*◌, ◌<◌, ◌≤◌, min, ◌&&◌, IsTrue, length, ℤ, Some, None, MatchResult, ◌≢◌};
 ghost use Rattle.refusals.specs.declared.Refusal.TheVariants.{TooManyLevels, WrongNumber};
 ghost use Rattle.pairs.specs.Pairs.{Height, max_height};
 ghost use Rattle.levels.specs.Maps.{power};
@@ -9,25 +9,25 @@ ghost use Rattle.tower.specs.Checks.{build_refusal, change_refusal, first_wrong,
 ghost use Rattle.tower.specs.Known.{CanBuild, CanChange, CanShow, SideOf, WholeMap};
 
 use maps::HeightMap;
+use maps::size::Size;
+use places::Place;
 use refusals::Refusal;
+use windows::area::Area;
 
 // The side of a map of k levels.
 pub fn side_of(k: u64) -> Result<usize, Refusal>
     ensures { MatchResult result (λ s. SideOf k s) (λ e. (max_k < k) × (e ≡ TooManyLevels k)) }
 {
-    match HeightMap::side(k) {
-        Some(side) => Ok(side),
-        None => Err(Refusal::TooManyLevels(k)),
-    }
+    HeightMap::side(k).ok_or(Refusal::TooManyLevels(k))
 }
 
 // Whether all are heights: a bit past the sixteenth that one of them has is in all of them together.
 fn all_heights(numbers: &[i32]) -> bool
-    ensures { T result → (i : ℕ) → i < length numbers.now → Height (line numbers.now i) }
+    ensures { IsTrue result → (i : ℕ) → i < length numbers.now → Height (line numbers.now i) }
 {
     let mut bits: i32 = 0;
-    for i in 0..numbers.len() {
-        bits |= numbers[i];
+    for number in numbers {
+        bits |= *number;
     }
     HeightMap::is_height(bits)
 }
@@ -36,11 +36,8 @@ fn all_heights(numbers: &[i32]) -> bool
 fn find_wrong(heights: &[i32], many: usize) -> Option<usize>
     ensures { result ≡ first_wrong many 0 heights.now }
 {
-    for i in 0..heights.len() {
-        if i == many {
-            return Some(i);
-        }
-        if !HeightMap::is_height(heights[i]) {
+    for (i, height) in heights.iter().enumerate() {
+        if i == many || !HeightMap::is_height(*height) {
             return Some(i);
         }
     }
@@ -75,17 +72,20 @@ pub fn check_length(length: usize, many: usize) -> Result<(), Refusal>
     }
 }
 
-// What `build` asks: the side of the map.
-pub fn check_build(k: u64, heights: &[i32], room: usize) -> Result<usize, Refusal>
-    ensures { MatchResult result (λ s. (build_refusal k heights.now room ≡ None) × CanBuild k heights.now room s) (λ e. build_refusal k heights.now room ≡ Some e) }
+// What `build` asks: the map.
+pub fn check_build<'a>(k: u64, heights: &'a [i32], room: usize) -> Result<HeightMap<'a>, Refusal>
+    ensures { MatchResult result (λ m. (build_refusal k heights.now room ≡ None) × CanBuild k heights.now room m) (λ e. build_refusal k heights.now room ≡ Some e) }
 {
     let side = side_of(k)?;
     check_map(heights, side * side)?;
-    if room == side * side {
-        Ok(side)
-    } else {
-        Err(Refusal::WrongRoom(room as u64))
+    if room != side * side {
+        return Err(Refusal::WrongRoom(room as u64));
     }
+    let size = Size {
+        wide: side,
+        high: side,
+    };
+    Ok(HeightMap { size, heights })
 }
 
 // Whether a stretch of places, from one on, lies within a side.
@@ -102,21 +102,21 @@ fn on_map(side: u64, x: u64, y: u64, wide: u64, high: u64) -> bool
     on_side(side, x, wide) && on_side(side, y, high)
 }
 
-// What `window` asks: the side of the level.
-pub fn check_window(
+// What `window` asks: the places of the level that are to be shown.
+pub fn check_window<'a>(
     k: u64,
-    tower: usize,
+    tower: &'a [i32],
     level: u64,
     x: u64,
     y: u64,
     wide: u64,
     high: u64,
     room: usize,
-) -> Result<usize, Refusal>
-    ensures { MatchResult result (λ s. (window_refusal k tower level x y wide high room ≡ None) × CanShow k tower level x y wide high room s) (λ e. window_refusal k tower level x y wide high room ≡ Some e) }
+) -> Result<Area<'a>, Refusal>
+    ensures { MatchResult result (λ a. (window_refusal k (length tower.now) level x y wide high room ≡ None) × CanShow k tower.now level x y wide high room a) (λ e. window_refusal k (length tower.now) level x y wide high room ≡ Some e) }
 {
     let whole = side_of(k)?;
-    check_length(tower, whole * whole)?;
+    check_length(tower.len(), whole * whole)?;
     if level > k {
         return Err(Refusal::NoSuchLevel);
     }
@@ -124,16 +124,26 @@ pub fn check_window(
     if !on_map(side as u64, x, y, wide, high) {
         return Err(Refusal::OffTheMap);
     }
-    if room as u64 == wide * high {
-        Ok(side)
-    } else {
-        Err(Refusal::WrongRoom(room as u64))
+    if room as u64 != wide * high {
+        return Err(Refusal::WrongRoom(room as u64));
     }
+    let size = Size {
+        wide: side,
+        high: side,
+    };
+    Ok(Area {
+        tower,
+        size,
+        x: x as usize,
+        y: y as usize,
+        wide: wide as usize,
+        high: high as usize,
+    })
 }
 
-// What `change` asks: the side of the map.
-pub fn check_change(k: u64, tower: usize, x: u64, y: u64, height: u64) -> Result<usize, Refusal>
-    ensures { MatchResult result (λ s. (change_refusal k tower x y height ≡ None) × CanChange k tower x y height s) (λ e. change_refusal k tower x y height ≡ Some e) }
+// What `change` asks: the place.
+pub fn check_change(k: u64, tower: usize, x: u64, y: u64, height: u64) -> Result<Place, Refusal>
+    ensures { MatchResult result (λ p. (change_refusal k tower x y height ≡ None) × CanChange k tower x y height p) (λ e. change_refusal k tower x y height ≡ Some e) }
 {
     let side = side_of(k)?;
     check_length(tower, side * side)?;
@@ -141,8 +151,15 @@ pub fn check_change(k: u64, tower: usize, x: u64, y: u64, height: u64) -> Result
         return Err(Refusal::OffTheMap);
     }
     if height > HeightMap::MAX_HEIGHT as u64 {
-        Err(Refusal::TooHigh)
-    } else {
-        Ok(side)
+        return Err(Refusal::TooHigh);
     }
+    let size = Size {
+        wide: side,
+        high: side,
+    };
+    Ok(Place {
+        size,
+        x: x as usize,
+        y: y as usize,
+    })
 }

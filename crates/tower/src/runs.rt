@@ -7,6 +7,8 @@ ghost use Rattle.tower.specs.Known.{SideOf};
 ghost use Rattle.tower.specs.Runs.{CallsEitherOrder, CallsUndone, first_refusal, made_all, Replayed, replay_refusal};
 
 use crate::checks::{check_build, check_change};
+use maps::size::Size;
+use places::Place;
 use refusals::Refusal;
 
 // One height set to another.
@@ -21,53 +23,46 @@ pub struct Change {
 fn check_changes(k: u64, tower: usize, changes: &[Change]) -> Result<(), Refusal>
     ensures { MatchResult result (λ _. first_refusal k tower changes.now ≡ None) (λ e. first_refusal k tower changes.now ≡ Some e) }
 {
-    for i in 0..changes.len() {
-        let change = changes[i];
+    for change in changes {
         check_change(k, tower, change.x, change.y, change.height)?;
     }
     Ok(())
 }
 
 // Changes that are known to be taken, made one after the other.
-fn change_all(k: u64, side: usize, tower: &mut [i32], changes: &[Change])
-    requires side { (SideOf k side) × (length tower.old ≡ side * side) }
+fn change_all(k: u64, size: Size, tower: &mut [i32], changes: &[Change])
+    requires side { SideOf k size.wide × (size.high ≡ size.wide) }
+    requires whole { length tower.old ≡ size.wide * size.wide }
     requires taken { first_refusal k (length tower.old) changes.now ≡ None }
-    ensures { (p : Map) → Holds k side side tower.old p → Holds k side side tower.new (made_all p changes.now) }
+    ensures { (p : Map) → Holds k size.wide size.high tower.old p → Holds k size.wide size.high tower.new (made_all p changes.now) }
 {
-    for i in 0..changes.len() {
-        let change = changes[i];
-        changes::change(
-            tower,
-            side,
-            side,
-            change.x as usize,
-            change.y as usize,
-            change.height as i32,
-        );
+    for change in changes {
+        let place = Place {
+            size,
+            x: change.x as usize,
+            y: change.y as usize,
+        };
+        changes::change(tower, place, change.height as i32);
     }
 }
 
 // A map built and then changed, place by place. Where the map or one of the changes is refused nothing is written.
 pub fn replay(k: u64, heights: &[i32], changes: &[Change], tower: &mut [i32]) -> Result<(), Refusal>
-    ensures { Answered (replay_refusal k heights.now changes.now (length tower.old)) result tower.old tower.new (Replayed k heights.now changes.now tower.new) }
+    ensures { Answered (replay_refusal k heights.now changes.now (length tower.old)) result tt tower.old tower.new (Replayed k heights.now changes.now tower.new) }
 {
-    let side = check_build(k, heights, tower.len())?;
+    let map = check_build(k, heights, tower.len())?;
     check_changes(k, tower.len(), changes)?;
-    building::build(heights, side, side, tower);
-    change_all(k, side, tower, changes);
+    building::build(&map, tower);
+    change_all(k, map.size, tower, changes);
     Ok(())
 }
 
 // Two changes at different places leave the same tower in either order.
-pub fn either_order() -> u8
+pub fn either_order()
     ensures { CallsEitherOrder }
-{
-    0
-}
+{}
 
 // A change back leaves the tower that there was.
-pub fn undone() -> u8
+pub fn undone()
     ensures { CallsUndone }
-{
-    0
-}
+{}

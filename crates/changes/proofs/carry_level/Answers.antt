@@ -10,12 +10,12 @@ use Rattle.changes.proofs.carry_level.Goals as goal
 pub returns : goal.returns
 unfolding means halved
 returns c zs on =
-    let w = c.args.wide in
-    let h = c.args.high in
-    let x = c.args.x in
-    let y = c.args.y in
-    let hx = c.requires.place.0 in
-    let hy = c.requires.place.1 in
+    let w = c.args.place.size.wide in
+    let h = c.args.place.size.high in
+    let x = c.args.place.x in
+    let y = c.args.place.y in
+    let hx = c.args.place.across in
+    let hy = c.args.place.down in
     let ts = c.args.tower.now in
     let fb : SFits w32 c.args.by = c.ranges.by in
     let fr : SFits w32 c.carry_line-row_by.result = search rules in
@@ -32,7 +32,7 @@ returns c zs on =
       holds = λ k p o hg.
           let l = next_level k w h o.wide o.high (omega arith) in
           let j : ℕ = l.0 in
-          let o' : Holds (suc l.0) c.args.wide c.args.high c.args.tower.now p = rw l.1 at o in
+          let o' : Holds (suc l.0) c.args.place.size.wide c.args.place.size.high c.args.tower.now p = rw l.1 at o in
           let by = c.args.by in
           let q : Map = with_height p x y (p x y +ℤ by) in
           let hs = with_heights w h p x y (p x y +ℤ by) o.heights hg in

@@ -30,4 +30,4 @@ returns c =
     let v = t.value in
     let w = s.value in
     let less = places_less c.args.k c.args.level c.if-level-k.false in
-    (coarse_taken _ _ _ s.levels _ s.value q c.if-level-k.false, record { level = c.if-level-k.false; value = t.value; within = omega arith })
+    (coarse_taken _ _ _ s.levels _ s.value q c.if-level-k.false, record { levels = s.levels; level = c.if-level-k.false; value = t.value; whole = q ∙ s.value; within = omega arith })

@@ -1,38 +1,5 @@
-use Rattle.std.proofs.Common.{◌≡◌, suc, ◌-◌, ◌*◌, Some, sym, ap, ◌∙◌, arith}
-use Rattle.std.proofs.lemmas.Result.{err_from_is_err_and}
-use Rattle.tower.specs.Checks.{places}
-use Rattle.parts.proofs.Counts.{places_less, places_four}
-use Rattle.parts.proofs.Order.{detail_levels, detail_number, detail_level, detail_taken}
+use Rattle.parts.proofs.Details.{detail_told}
 use Rattle.parts.proofs.check_detail.Goals as goal
 
-pub returns-in_err-whole : goal.returns-in_err-whole
-returns-in_err-whole c =
-    let p = err_from_is_err_and c.from_residual.result c.from_residual.ensures.1 in
-    let o = c.in_err-whole.ensures in
-    rw (p.1, p.2) (detail_levels _ _ _ o.0 ∙ ap Some (sym o.1))
-
-pub returns-in_err-check_length : goal.returns-in_err-check_length
-returns-in_err-check_length c =
-    let p = err_from_is_err_and c.from_residual-in_err-check_length.result c.from_residual-in_err-check_length.ensures.1 in
-    let s = c.in_ok-whole.ensures in
-    let o = c.in_err-check_length.ensures in
-    rw (p.1, p.2) (detail_number _ _ _ s.levels _ s.value o.0 ∙ ap Some (sym o.1))
-
-pub returns-then-level-k : goal.returns-then-level-k
-returns-then-level-k c =
-    let s = c.in_ok-whole.ensures in
-    detail_level _ _ _ s.levels _ s.value c.in_ok-check_length.ensures c.if-level-k.true
-
 pub returns : goal.returns
-returns c =
-    let s = c.in_ok-whole.ensures in
-    let q = c.in_ok-check_length.ensures in
-    let t = c.in_ok-before.ensures in
-    let hl = c.if-level-k.false in
-    let one : c.args.k - c.args.level - 1 ≡ c.args.k - suc c.args.level = omega arith in
-    let next : c.args.k - c.args.level ≡ suc (c.args.k - suc c.args.level) = omega arith in
-    let value = t.value ∙ ap places one in
-    let four = ap (λ n. 4 * n) value ∙ sym (ap places next ∙ places_four (c.args.k - suc c.args.level)) in
-    let w = s.value in
-    let less = places_less c.args.k c.args.level (omega arith) in
-    (detail_taken _ _ _ s.levels _ s.value q hl, record { level = hl; value = value; four = four; within = omega arith })
+returns c = detail_told _ _ _ _ c.saturating_add.ensures c.ranges.level.fits _ c.check_coarse.ensures

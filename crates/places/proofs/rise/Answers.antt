@@ -9,13 +9,13 @@ use Rattle.places.proofs.rise.Goals as goal
 pub returns : goal.returns
 unfolding halved means
 returns c k p o =
-    let w = c.args.wide in
-    let h = c.args.high in
-    let x = c.args.x in
-    let y = c.args.y in
+    let w = c.args.place.size.wide in
+    let h = c.args.place.size.high in
+    let x = c.args.place.x in
+    let y = c.args.place.y in
     let ts = c.args.tower.now in
-    let hx = c.requires.place.0 in
-    let hy = c.requires.place.1 in
+    let hx = c.args.place.across in
+    let hy = c.args.place.down in
     let fa : SFits w32 c.line_rise-across.result = search rules in
     let fd : SFits w32 c.line_rise-down.result = search rules in
     level_rises (p x y) (means w p (x / 2) y) (halved w h p (x / 2) (y / 2)) _ _ (o.heights x y hx hy) (halved_height w h p o.heights (x / 2) (y / 2) (omega arith) (omega arith))

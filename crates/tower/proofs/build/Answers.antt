@@ -1,8 +1,21 @@
-use Rattle.tower.proofs.Taken.{enter_taken, enter_refused}
+use Rattle.std.proofs.Common.{Err, ap, ◌∙◌, arith}
+use Rattle.std.proofs.lemmas.Result.{err_from_is_err_and}
+use Rattle.tower.proofs.Taken.{answer_refused, answer_taken, built}
 use Rattle.tower.proofs.build.Goals as goal
 
-pub returns-in-Ok : goal.returns-in-Ok
-returns-in-Ok c = enter_taken _ _ _ _ _ c.in-Ok.ensures
+pub returns-in_err-map : goal.returns-in_err-map
+returns-in_err-map c =
+    let p = err_from_is_err_and c.from_residual.result c.from_residual.ensures.1 in
+    answer_refused _ _ _ _ _ _ c.in_err-map.ensures (p.1 ∙ ap Err p.2)
 
-pub returns-in-Err : goal.returns-in-Err
-returns-in-Err c = enter_refused _ _ _ _ _ _ _ c.number.ensures c.in-Err.ensures
+pub build-requires : goal.build-requires
+build-requires c =
+    let o = c.in_ok-map.ensures.1 in
+    let q = o.square in
+    let r = o.room in
+    record { some = (o.side.some, rw q o.side.some); room = rw q (omega arith) }
+
+pub returns : goal.returns
+returns c =
+    let o = c.in_ok-map.ensures in
+    answer_taken _ _ _ _ _ o.0 (built _ _ _ _ _ o.1 (omega arith) c.build.ensures.holds)

@@ -1,5 +1,5 @@
-use Rattle.maps.specs.Rows.{RowHalved}
+use Rattle.maps.specs.Rows.{RowHalvedTo}
 use Rattle.maps.proofs.rows.halve_row.Given as goal
 
 abbrev pub invariant-loop-i : goal.invariant-loop-i
-invariant-loop-i l = RowHalved l.row l.initial.room l.room l.to l.beside l.i l.i
+invariant-loop-i l = RowHalvedTo l.i l.i l.row l.means l.differences

@@ -29,12 +29,12 @@ overflow_add-result c =
     let m = c.min.ensures in
     omega arith
 
-pub returns-then-parts-j : goal.returns-then-parts-j
+pub returns-then-part-size : goal.returns-then-part-size
 unfolding part_size
-returns-then-parts-j c =
+returns-then-part-size c =
     let o = c.loop-j.invariant in
     let size : c.loop-j.end - c.loop-j.begin ≡ part_size c.loop-j.j = (λ i. o.2 i - o.1 i) in
-    let here = gap_here c.args.k c.loop-j.j c.args.parts.now no_part c.loop-j-test.true c.if-j-k.false (rw size at c.if-parts-j.true) in
+    let here = gap_here c.args.k c.loop-j.j c.args.parts.now no_part c.loop-j-test.true c.if-j-k.false (rw size at c.if-part-size.true) in
     let sum : c.loop-j.begin + c.min.result ≡ begins c.loop-j.j + min (length (get_or c.args.parts.now c.loop-j.j no_part).now) (part_size c.loop-j.j) =
     (λ i. o.1 i + (rw size at c.min.ensures) i) in
     ap Some sum ∙ sym (o.3 ∙ here)
@@ -53,7 +53,7 @@ loop-j-preserved c =
       omega arith,
       o.2 ∙ sym (begins_next c.loop-j.j),
       ap (λ n. 4 * n) o.2 ∙ sym (places_next c.loop-j.j),
-      o.3 ∙ gap_step c.args.k c.loop-j.j c.args.parts.now no_part c.loop-j-test.true c.if-j-k.false (rw size at c.if-parts-j.false),
+      o.3 ∙ gap_step c.args.k c.loop-j.j c.args.parts.now no_part c.loop-j-test.true c.if-j-k.false (rw size at c.if-part-size.false),
     )
 
 pub returns-then-parts-k : goal.returns-then-parts-k

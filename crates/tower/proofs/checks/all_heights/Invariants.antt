@@ -3,5 +3,5 @@ use Rattle.pairs.specs.Pairs.{Height}
 use Rattle.maps.specs.Rows.{line}
 use Rattle.tower.proofs.checks.all_heights.Given as goal
 
-abbrev pub invariant-loop-i : goal.invariant-loop-i
-invariant-loop-i l = Height l.bits → (k : ℕ) → k < l.i → Height (line l.numbers k)
+abbrev pub invariant-loop-number : goal.invariant-loop-number
+invariant-loop-number l = Height l.bits → (k : ℕ) → k < l.number-index → Height (line l.numbers k)

@@ -1,4 +1,4 @@
-use Rattle.std.proofs.Common.{Some, sym, ap, ◌∙◌}
+use Rattle.std.proofs.Common.{Some, sym, refl, ap, ◌∙◌}
 use Rattle.std.proofs.lemmas.Result.{err_from_is_err_and}
 use Rattle.tower.proofs.Order.{build_levels, build_number, build_room, build_taken}
 use Rattle.tower.proofs.checks.check_build.Goals as goal
@@ -20,10 +20,10 @@ pub returns-then-room-side : goal.returns-then-room-side
 returns-then-room-side c =
     let s = c.in_ok-side.ensures in
     let m = c.in_ok-check_map.ensures in
-    (build_taken _ _ _ s.levels _ s.value m.right c.if-room-side.true, record { side = s; whole = m.whole; heights = m.heights; room = c.if-room-side.true })
+    build_room _ _ _ s.levels _ s.value m.right c.if-room-side.true
 
-pub returns-else-room-side : goal.returns-else-room-side
-returns-else-room-side c =
+pub returns : goal.returns
+returns c =
     let s = c.in_ok-side.ensures in
     let m = c.in_ok-check_map.ensures in
-    build_room _ _ _ s.levels _ s.value m.right c.if-room-side.false
+    (build_taken _ _ _ s.levels _ s.value m.right c.if-room-side.false, record { side = s; square = refl; heights = refl; whole = m.whole; room = c.if-room-side.false })

@@ -1,4 +1,4 @@
-use Rattle.std.proofs.Common.{Some, sym, ap, ◌∙◌, ⊎_elim, arith}
+use Rattle.std.proofs.Common.{Some, sym, refl, ap, ◌∙◌, ⊎_elim, arith}
 use Rattle.std.proofs.lemmas.Result.{err_from_is_err_and}
 use Rattle.tower.proofs.Order.{change_levels, change_number, change_off, change_high, change_taken}
 use Rattle.tower.proofs.checks.check_change.Goals as goal
@@ -27,10 +27,10 @@ returns-then-height c =
     let s = c.in_ok-side.ensures in
     change_high _ _ _ _ _ s.levels _ s.value c.in_ok-check_length.ensures c.if-x-side.false c.if-y-side.false c.if-height.true
 
-pub returns-else-height : goal.returns-else-height
-returns-else-height c =
+pub returns : goal.returns
+returns c =
     let s = c.in_ok-side.ensures in
     let n = c.in_ok-check_length.ensures in (
       change_taken _ _ _ _ _ s.levels _ s.value n c.if-x-side.false c.if-y-side.false c.if-height.false,
-      record { side = s; whole = n; across = c.if-x-side.false; down = c.if-y-side.false; height = c.if-height.false },
+      record { side = s; square = refl; whole = n; place = (refl, refl); height = c.if-height.false },
     )

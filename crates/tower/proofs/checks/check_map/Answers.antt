@@ -1,10 +1,10 @@
-use Rattle.std.proofs.Common.{sym, arith}
+use Rattle.std.proofs.Common.{sym, refl, arith}
 use Rattle.tower.proofs.Wrong.{none_wrong, right_whole}
 use Rattle.tower.proofs.checks.check_map.Goals as goal
 
 pub returns-then-all_heights : goal.returns-then-all_heights
 returns-then-all_heights c =
-    let h = c.if-all_heights.ensures tt in
+    let h = c.if-all_heights.ensures refl in
     record {
       right = none_wrong c.args.many 0 c.args.heights.now c.if-heights-many.true (λ i hi. h i (omega arith));
       whole = c.if-heights-many.true;

@@ -2,7 +2,7 @@ use Rattle.std.proofs.Common.{refl, le_refl, arith}
 use Rattle.levels.specs.Maps.{size}
 use Rattle.levels.specs.Numbering.{down_index}
 use Rattle.levels.proofs.Parts.{down_within}
-use Rattle.maps.proofs.layout.down_at.Goals as goal
+use Rattle.maps.proofs.size.Size.down_at.Goals as goal
 
 pub returns : goal.returns
 unfolding down_index size

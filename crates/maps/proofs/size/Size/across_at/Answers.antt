@@ -2,7 +2,7 @@ use Rattle.std.proofs.Common.{refl, le_refl, arith}
 use Rattle.levels.specs.Maps.{size}
 use Rattle.levels.specs.Numbering.{across_index}
 use Rattle.levels.proofs.Parts.{across_within}
-use Rattle.maps.proofs.layout.across_at.Goals as goal
+use Rattle.maps.proofs.size.Size.across_at.Goals as goal
 
 pub returns : goal.returns
 unfolding across_index size

@@ -1,0 +1,11 @@
+-- How many places a size has. Assumes nothing: these are definitions.
+--     HasPlaces           it has some
+--     Covers              a list has a number for each of them
+use Rattle.std.specs.Prelude.{◌*◌, ◌<◌, ◌≤◌, List, length, ℤ}
+use Rattle.maps.specs.declared.size.Size.{Size}
+
+abbrev pub HasPlaces : Size → Type 0
+HasPlaces s = (0 < s.wide) × (0 < s.high)
+
+abbrev pub Covers : Size → List ℤ → Type 0
+Covers s xs = s.wide * s.high ≤ length xs
