@@ -134,45 +134,45 @@ module _ (xs ys : List ℤ) (lx : length xs ≡ 4) (ly : length ys ≡ 4) where
   turn_second (suc (suc (suc (suc i)))) = λ h. absurd (omega arith)
 
 -- a vector that is passed
-abbrev Passed : List ℤ → List ℤ
-Passed xs = map (to_z w32) (map (of_z w32) xs)
+abbrev as_passed : List ℤ → List ℤ
+as_passed xs = map (to_z w32) (map (of_z w32) xs)
 
-passed : (xs : List ℤ) (i : ℕ) → i < length xs → SFits w32 (line xs i) → line (Passed xs) i ≡ line xs i
-passed xs i h f = let l = length-map xs (of_z w32) in get_or-map (to_z w32) (map (of_z w32) xs) i 0 (pos 0) (omega arith) ∙ ap (to_z w32) (get_or-map (of_z w32) xs i (pos 0) 0 h) ∙ to_z-of_z w32 _ f
+passed_same : (xs : List ℤ) (i : ℕ) → i < length xs → SFits w32 (line xs i) → line (as_passed xs) i ≡ line xs i
+passed_same xs i h f = let l = length-map xs (of_z w32) in get_or-map (to_z w32) (map (of_z w32) xs) i 0 (pos 0) (omega arith) ∙ ap (to_z w32) (get_or-map (of_z w32) xs i (pos 0) 0 h) ∙ to_z-of_z w32 _ f
 
 -- and one of the first four of a list
-loaded : (xs : List ℤ) (i : ℕ) → 4 ≤ length xs → i < 4 → SFits w32 (line xs i) → line (Passed (take 4 (take 4 xs))) i ≡ line xs i
+loaded : (xs : List ℤ) (i : ℕ) → 4 ≤ length xs → i < 4 → SFits w32 (line xs i) → line (as_passed (take 4 (take 4 xs))) i ≡ line xs i
 loaded xs i h hi f =
     let e : line (take 4 (take 4 xs)) i ≡ line xs i = get_or-take 4 (take 4 xs) i (pos 0) hi ∙ get_or-take 4 xs i (pos 0) hi in
     let a = length-take-le 4 xs h in
     let b = length-take-le 4 (take 4 xs) (omega arith) in
-    passed (take 4 (take 4 xs)) i (omega arith) (rw e f) ∙ e
+    passed_same (take 4 (take 4 xs)) i (omega arith) (rw e f) ∙ e
 
 -- the lanes of four pairs: fs are the firsts of what is loaded of means and differences, ss the seconds of those
 module _ (ms ds fs ss : List ℤ) (lm : 4 ≤ length ms) (ld : 4 ≤ length ds) (lf : length fs ≡ 4) (ls : length ss ≡ 4) (i : ℕ) (hi : i < 4)
-    (first : Height (line (Passed (take 4 (take 4 ms))) i) → Difference (line (Passed (take 4 (take 4 ds))) i) → line fs i ≡ first_of (line (Passed (take 4 (take 4 ms))) i) (line (Passed (take 4 (take 4 ds))) i))
-    (second : (m : ℤ) → Height m → Difference (line (Passed (take 4 (take 4 ds))) i) → line (Passed fs) i ≡ first_of m (line (Passed (take 4 (take 4 ds))) i) → line ss i ≡ second_of m (line (Passed (take 4 (take 4 ds))) i))
+    (first : Height (line (as_passed (take 4 (take 4 ms))) i) → Difference (line (as_passed (take 4 (take 4 ds))) i) → line fs i ≡ first_of (line (as_passed (take 4 (take 4 ms))) i) (line (as_passed (take 4 (take 4 ds))) i))
+    (second : (m : ℤ) → Height m → Difference (line (as_passed (take 4 (take 4 ds))) i) → line (as_passed fs) i ≡ first_of m (line (as_passed (take 4 (take 4 ds))) i) → line ss i ≡ second_of m (line (as_passed (take 4 (take 4 ds))) i))
     (hm : Height (line ms i)) (hd : Difference (line ds i)) where
-  load_means : line (Passed (take 4 (take 4 ms))) i ≡ line ms i
+  load_means : line (as_passed (take 4 (take 4 ms))) i ≡ line ms i
   load_means = let f : SFits w32 (line ms i) = omega (arith, ints) in loaded ms i lm hi f
 
-  load_differences : line (Passed (take 4 (take 4 ds))) i ≡ line ds i
+  load_differences : line (as_passed (take 4 (take 4 ds))) i ≡ line ds i
   load_differences = let f : SFits w32 (line ds i) = omega (arith, ints) in loaded ds i ld hi f
 
   firsts_are : line fs i ≡ first_of (line ms i) (line ds i)
   firsts_are = (rw (load_means, load_differences) at first) hm hd
 
-  firsts_passed : line (Passed fs) i ≡ first_of (line ms i) (line ds i)
-  firsts_passed = passed fs i (omega arith) (rw firsts_are (first_fits (line ms i) (line ds i) hm hd)) ∙ firsts_are
+  firsts_passed : line (as_passed fs) i ≡ first_of (line ms i) (line ds i)
+  firsts_passed = passed_same fs i (omega arith) (rw firsts_are (first_fits (line ms i) (line ds i) hm hd)) ∙ firsts_are
 
   seconds_are : line ss i ≡ second_of (line ms i) (line ds i)
   seconds_are = (rw load_differences at (second (line ms i) hm)) hd firsts_passed
 
-  pub first_written : (r : ℤ) → (SFits w32 (line (Passed fs) i) → r ≡ line (Passed fs) i) → r ≡ first_of (line ms i) (line ds i)
+  pub first_written : (r : ℤ) → (SFits w32 (line (as_passed fs) i) → r ≡ line (as_passed fs) i) → r ≡ first_of (line ms i) (line ds i)
   first_written r e = e (rw firsts_passed (first_fits (line ms i) (line ds i) hm hd)) ∙ firsts_passed
 
-  pub second_written : (r : ℤ) → (SFits w32 (line (Passed ss) i) → r ≡ line (Passed ss) i) → r ≡ second_of (line ms i) (line ds i)
+  pub second_written : (r : ℤ) → (SFits w32 (line (as_passed ss) i) → r ≡ line (as_passed ss) i) → r ≡ second_of (line ms i) (line ds i)
   second_written r e =
       let f : SFits w32 (line ss i) = rw seconds_are (second_fits (line ms i) (line ds i) hm hd) in
-      let p = passed ss i (omega arith) f in
+      let p = passed_same ss i (omega arith) f in
       e (rw p f) ∙ p ∙ seconds_are

@@ -35,8 +35,8 @@ filled n m xs ys room e er em =
     let all : length (xs ++ ws) ≤ n + m = omega (arith, length-append xs ws, length-drop (n - 0) room) in
     rw (take_at xs ws n e, drop-drop m n (xs ++ ws), drop_all (n + m) (xs ++ ws) all, append-nil ys) refl
 
-pub handed : (f : Option Refusal) (part : List ℤ) (there : Type 0) → f ≡ None → there → Handed f part there
-handed f part there e t = rw e t
+pub part_handed : (f : Option Refusal) (part : List ℤ) (there : Type 0) → f ≡ None → there → Handed f part there
+part_handed f part there e t = rw e t
 
-pub none_handed : (f : Option Refusal) (r : Refusal) (part : List ℤ) (there : Type 0) → f ≡ Some r → part ≡ [] → Handed f part there
-none_handed f r part there e q = rw e q
+pub part_refused : (f : Option Refusal) (r : Refusal) (part : List ℤ) (there : Type 0) → f ≡ Some r → part ≡ [] → Handed f part there
+part_refused f r part there e q = rw e q

@@ -1,9 +1,9 @@
 -- The bits of several numbers together. Assumes nothing.
-use Rattle.std.proofs.Common.{◌≡◌, ℕ, ◌<◌, ◌≤◌, ℤ, pos, negsuc, arith, w32, SFits, to_z, of_z}
+use Rattle.std.proofs.Common.{◌≡◌, ℕ, ◌^◌, ◌<◌, ◌≤◌, ℤ, pos, negsuc, arith, w32, SFits, to_z, of_z}
 use borrow.Author.Differences.{ints}
 use lib.Bits.{bit_or, or_add_and}
 use Rattle.std.proofs.lemmas.Nat.{and_le_l, and_le_r, or_lt}
-use Rattle.std.proofs.lemmas.Int.{of_z-to_z}
+use Rattle.std.proofs.lemmas.Int.{of_z-to_z, to_z_pos}
 use Rattle.pairs.specs.Pairs.{Height}
 
 height_bits : (z : ℤ) → Height z → of_z w32 z ≤ 65535
@@ -22,3 +22,12 @@ together m b z e hm fz h =
     let lm : m ≤ 65535 = omega (arith, and_le_r m (of_z w32 z)) in
     let lz : of_z w32 z ≤ 65535 = omega (arith, and_le_l m (of_z w32 z)) in
     (omega (arith, ints), omega (arith, ints))
+
+-- and where both are heights, so are they together
+pub both_together : (m : ℕ) (b z : ℤ) → to_z w32 m ≡ b → m < 4294967296 → SFits w32 z → Height b → Height z → Height (to_z w32 (bit_or m (of_z w32 z)))
+both_together m b z e hm fz hb hz =
+    let lm : m ≤ 65535 = rw (of_z-to_z w32 m hm) at (height_bits (to_z w32 m) (rw e hb)) in
+    let lz : of_z w32 z ≤ 65535 = height_bits z hz in
+    let lo : bit_or m (of_z w32 z) < 2 ^ 16 = or_lt 16 m (of_z w32 z) (omega arith) (omega arith) in
+    let p : to_z w32 (bit_or m (of_z w32 z)) ≡ pos (bit_or m (of_z w32 z)) = to_z_pos w32 (bit_or m (of_z w32 z)) (omega arith) in
+    rw p (omega (arith, ints))

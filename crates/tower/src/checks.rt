@@ -1,5 +1,5 @@
 // The checks of the calls, in their order. Each gives what is then known.
-ghost use Rattle.std.specs.Prelude.{◌≡◌, ℕ, ◌+◌, ◌-◌, ◌*◌, ◌<◌, ◌≤◌, min, ◌&&◌, IsTrue, length, ℤ, Some, None, MatchResult, ◌≢◌};
+ghost use Rattle.std.specs.Prelude.{◌≡◌, ◌↔◌, ℕ, ◌+◌, ◌-◌, ◌*◌, ◌<◌, ◌≤◌, min, ◌&&◌, IsTrue, length, ℤ, Some, None, MatchResult, ◌≢◌};
 ghost use Rattle.refusals.specs.declared.Refusal.TheVariants.{TooManyLevels, WrongNumber};
 ghost use Rattle.pairs.specs.Pairs.{Height, max_height};
 ghost use Rattle.levels.specs.Maps.{power};
@@ -23,7 +23,7 @@ pub fn side_of(k: u64) -> Result<usize, Refusal>
 
 // Whether all are heights: a bit past the sixteenth that one of them has is in all of them together.
 fn all_heights(numbers: &[i32]) -> bool
-    ensures { IsTrue result → (i : ℕ) → i < length numbers.now → Height (line numbers.now i) }
+    ensures { IsTrue result ↔ ((i : ℕ) → i < length numbers.now → Height (line numbers.now i)) }
 {
     let mut bits: i32 = 0;
     for number in numbers {

@@ -1,12 +1,12 @@
 use Rattle.std.proofs.Common.{◌≡◌, ◌-◌, refl, ◌∙◌, arith}
-use Rattle.parts.proofs.Cut.{coarse_part, handed, none_handed}
+use Rattle.parts.proofs.Cut.{coarse_part, part_handed, part_refused}
 use Rattle.parts.proofs.coarse.Goals as goal
 
 pub returns-in-Ok : goal.returns-in-Ok
 returns-in-Ok c =
     let o = c.in-Ok.ensures in
     let e : c.in-Ok.part - 0 ≡ c.in-Ok.part = omega arith in
-    handed _ _ _ o.0 (coarse_part c.args.k c.args.level (c.in-Ok.part - 0) c.args.tower.now o.1.level (e ∙ o.1.value))
+    part_handed _ _ _ o.0 (coarse_part c.args.k c.args.level (c.in-Ok.part - 0) c.args.tower.now o.1.level (e ∙ o.1.value))
 
 pub returns-in-Err : goal.returns-in-Err
-returns-in-Err c = none_handed _ _ _ _ c.in-Err.ensures refl
+returns-in-Err c = part_refused _ _ _ _ c.in-Err.ensures refl

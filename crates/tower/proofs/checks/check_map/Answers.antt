@@ -4,7 +4,7 @@ use Rattle.tower.proofs.checks.check_map.Goals as goal
 
 pub returns-then-all_heights : goal.returns-then-all_heights
 returns-then-all_heights c =
-    let h = c.if-all_heights.ensures refl in
+    let h = c.if-all_heights.ensures.0 refl in
     record {
       right = none_wrong c.args.many 0 c.args.heights.now c.if-heights-many.true (λ i hi. h i (omega arith));
       whole = c.if-heights-many.true;
