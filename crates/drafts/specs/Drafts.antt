@@ -5,7 +5,10 @@ use Rattle.levels.specs.Maps.{power}
 use Rattle.maps.specs.Limits.{max_k}
 use Rattle.tower.specs.Checks.{places, first_wrong, build_refusal}
 use Rattle.tower.specs.Known.{SideOf}
+use Rattle.refusals.specs.declared.Refusal.{Refusal}
 use Rattle.drafts.specs.declared.Draft.{Draft}
+use Rattle.drafts.specs.declared.MapError.{MapError}
+use Rattle.drafts.specs.declared.MapError.TheVariants.{Refused, OutOfMemory}
 use Rattle.drafts.specs.Given.{Given, or_else, map_refusal}
 
 -- the first wrong place in the rows so far, whatever rows are missing
@@ -30,3 +33,8 @@ pub record Whole (g : Given) (heights : List ℤ) (side : ℕ) : Type 0 where
   pub side_of : SideOf g.k side
   pub refusal : map_refusal g ≡ build_refusal g.k heights (places g.k)
   pub all : heights ≡ flat_map (λ row. row) g.rows
+
+-- why no map is made: what the rows are refused for, or want of memory, which nothing tells beforehand
+abbrev pub Refuses : Option Refusal → MapError → Type 0
+Refuses refusal (Refused e) = refusal ≡ Some e
+Refuses refusal OutOfMemory = Unit {0}
