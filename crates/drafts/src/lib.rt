@@ -12,19 +12,16 @@ ghost use Rattle.drafts.specs.Given.{Given, map_given, map_refusal, no_rows, wit
 use maps::HeightMap;
 use refusals::Refusal;
 use std::alloc::{AllocError, Global};
-use std::error::Error;
-use std::fmt;
 use tower::calls;
 use tower::checks::side_of;
 use viewer::Viewer;
 
-// The heights of the rows so far, up to the first place that is wrong; what is wrong is told when the rows have ended.
+// The heights of the rows so far, up to the first place that is wrong; what they are refused for is told when the rows have ended.
 #[derive(Drop)]
 pub struct Draft {
     k: u64,
     heights: Vec<i32>,
-    wrong: Option<u64>,
-    unreadable: Option<u64>,
+    refusal: Option<Refusal>,
 }
 
 // Why no map is made of the rows.
@@ -39,8 +36,8 @@ impl From<Refusal> for MapError {
 
     ghost from_gives = { λ refusal error. error ≡ Refused refusal };
 
-    fn from(refusal: Refusal) -> MapError {
-        MapError::Refused(refusal)
+    fn from(refusal: Refusal) -> Self {
+        Self::Refused(refusal)
     }
 }
 
@@ -49,21 +46,10 @@ impl From<AllocError> for MapError {
 
     ghost from_gives = { λ _ error. error ≡ OutOfMemory };
 
-    fn from(_error: AllocError) -> MapError {
-        MapError::OutOfMemory
+    fn from(_error: AllocError) -> Self {
+        Self::OutOfMemory
     }
 }
-
-impl fmt::Display for MapError {
-    fn fmt<W: fmt::Write>(&self, f: &mut fmt::Formatter<W>) -> fmt::Result {
-        match self {
-            MapError::Refused(refusal) => write!(f, "{refusal}"),
-            MapError::OutOfMemory => write!(f, "out of memory"),
-        }
-    }
-}
-
-impl Error for MapError {}
 
 // The height that a number is, if it is one.
 fn height_of(number: i64) -> Option<i32>
@@ -74,7 +60,7 @@ fn height_of(number: i64) -> Option<i32>
         .filter(|height| HeightMap::is_height(*height))
 }
 
-// The numbers of a row of so many places put to the heights: the first place of the row that is wrong, if one is.
+// The numbers of a row of so many places put to the heights: the first place of the row that is wrong, if one is, which is no error of the call.
 fn put_heights(
     heights: &mut Vec<i32>,
     many: usize,
@@ -99,8 +85,7 @@ impl Draft {
         Draft {
             k,
             heights: Vec::new(alloc),
-            wrong: None,
-            unreadable: None,
+            refusal: None,
         }
     }
 
@@ -111,26 +96,27 @@ impl Draft {
         let Ok(side) = side_of(self.k) else {
             return Ok(());
         };
-        if self.wrong.is_some() {
+        if self.refusal.is_some() {
             return Ok(());
         }
         let begin = self.heights.len();
         if begin >= side * side {
-            self.wrong = Some(begin as u64);
+            self.refusal = Some(Refusal::WrongNumber(begin as u64));
             return Ok(());
         }
         if let Some(place) = put_heights(&mut self.heights, side, row)? {
-            self.wrong = Some((begin + place) as u64);
+            self.refusal = Some(Refusal::WrongNumber((begin + place) as u64));
         }
         Ok(())
     }
 
-    // One row more, on a line that cannot be read.
+    // One row more, on a line that cannot be read: the first such line is told before any wrong place.
     pub fn mark_unreadable(&mut self, line: u64)
         ensures { (g : Given) → Drafts self.old g → Drafts self.new (with_row g line None) }
     {
-        if self.unreadable.is_none() {
-            self.unreadable = Some(line);
+        match self.refusal {
+            Some(Refusal::Unreadable(_)) => {}
+            _ => self.refusal = Some(Refusal::Unreadable(line)),
         }
     }
 
@@ -140,13 +126,10 @@ impl Draft {
         ensures tells { (g : Given) → Drafts self.now g → MatchResult result (λ side. Whole g self.now.heights.items side) (λ e. map_refusal g ≡ Some e) }
     {
         let side = side_of(self.k)?;
-        if let Some(line) = self.unreadable {
-            return Err(Refusal::Unreadable(line));
+        match self.refusal {
+            Some(refusal) => Err(refusal),
+            None => Ok(side),
         }
-        if let Some(place) = self.wrong {
-            return Err(Refusal::WrongNumber(place));
-        }
-        Ok(side)
     }
 
     // The rows have ended: the viewer of the map that they make.

@@ -72,7 +72,7 @@ pub fn is_row_line(line: &[u8]) -> bool
     matches!(Words::of(line).next(), Some([b'0'..=b'9' | b'-', ..]))
 }
 
-// The numbers of a row, or none where one of its words is no number: that is no failure of the call.
+// The numbers of a row, or none where one of its words is no number, which is no error of the call.
 pub fn read_row(alloc: Global, line: &[u8]) -> Result<Option<Vec<i64>>, AllocError>
     ensures { IfOk result (λ numbers. option_map vec_items numbers ≡ row line.now) }
 {
