@@ -43,7 +43,7 @@ impl Session {
         Ok(())
     }
 
-    // A command: the rows of a map begin, or it is one of the map that is looked at.
+    // A command: the rows of a map begin, or it is one of the map that is looked at. `Moves` would say it of any state, and this holds where no rows are being given.
     fn obey(
         &mut self,
         alloc: Global,

@@ -34,7 +34,7 @@ impl Viewer {
         Ok(())
     }
 
-    // A window, row by row.
+    // A window, row by row. Its four numbers stay apart, as `tower` asks for them.
     fn show_window(
         &self,
         alloc: Global,
