@@ -1,16 +1,18 @@
 -- Rows given one after the other: what is wrong with them, and what is kept of them. Assumes nothing.
-use Rattle.std.proofs.Common.{◌≡◌, ℕ, zero, suc, ◌+◌, ◌-◌, ◌*◌, ◌<◌, ◌≤◌, Bool, true, false, cond, List, [], ◌∷◌, ◌++◌, length, get_or, take, ℤ, pos, is_some, Some, None, Option, sym, refl, ap, ◌∙◌, append_assoc, arith}
-use Rattle.std.specs.Option.{option_map}
+use Rattle.std.proofs.Common.{◌≡◌, ℕ, zero, suc, ◌+◌, ◌-◌, ◌*◌, ◌<◌, ◌≤◌, Bool, true, false, cond, ltb, List, [], ◌∷◌, ◌++◌, length, get_or, take, drop, ℤ, pos, is_some, Some, None, Option, sym, refl, ap, ◌∙◌, append_assoc, arith, ltb-true, ltb-false}
+use Rattle.std.specs.Option.{option_map, option_or}
 use Rattle.std.specs.List.{flat_map}
 use Rattle.std.proofs.lemmas.Bool.{true≢false}
-use Rattle.std.proofs.lemmas.List.{take_more, length-append}
+use Rattle.std.specs.Bool.{then_some}
+use Rattle.std.proofs.lemmas.List.{take_more, take_all, length-append}
+use Rattle.tower.proofs.Wrong.{wrong_missing, wrong_none}
 use Rattle.tower.specs.Checks.{is_height, first_wrong}
-use Rattle.drafts.specs.Given.{or_else, rows_wrong}
+use Rattle.drafts.specs.Given.{rows_wrong}
 use Rattle.drafts.specs.Drafts.{wrong_so_far}
 
 -- something is not nothing
 pub some_none : {X : Type 0} (x : X) (P : Type 0) → ◌≡◌ {A = Option X} (Some x) None → P
-some_none x P e = let z : ◌≡◌ {A = ℕ} 0 1 = cc in absurd (omega arith)
+some_none x P e = absurd (cc)
 
 pub none_from : {X : Type 0} (o : Option X) → is_some o ≡ false → o ≡ None
 none_from None e = refl
@@ -27,6 +29,15 @@ told_wrong i w P e = (sym e, some_none i P)
 -- one height more of the row
 pub heights_more : (old heights after row : List ℤ) (i : ℕ) (h : ℤ) → i < length row → h ≡ get_or row i (pos 0) → heights ≡ old ++ take i row → after ≡ heights ++ (h ∷ []) → after ≡ old ++ take (i + 1) row
 heights_more old heights after row i h lt eh e f = f ∙ rw (e, eh, append_assoc, take_more row i (pos 0) lt) refl
+
+-- the row has ended, whole or short
+pub row_ended : (n i : ℕ) (row old heights : List ℤ) → i ≡ length row → i ≤ n → first_wrong (n - i) i (drop i row) ≡ first_wrong n 0 row → heights ≡ old ++ take i row →
+    (then_some (ltb (length row) n) (length row) ≡ first_wrong n 0 row) × (then_some (ltb (length row) n) (length row) ≡ None → heights ≡ old ++ row)
+row_ended n i row old heights e le right put = go (ltb (length row) n) refl
+  where
+    go : (t : Bool) → ltb (length row) n ≡ t → (then_some t (length row) ≡ first_wrong n 0 row) × (then_some t (length row) ≡ None → heights ≡ old ++ row)
+    go true t = let lt = ltb-true _ _ t in (sym (sym right ∙ rw e (wrong_missing row n (length row) (omega arith) lt)), λ z. cc)
+    go false t = let ge = ltb-false _ _ t in (sym (sym right ∙ wrong_none row n i (omega arith) (omega arith)), λ _. put ∙ rw (take_all i row (omega arith)))
 
 -- a wrong place is one of the row's, or the first behind it
 pub wrong_within : (n at p : ℕ) (zs : List ℤ) → first_wrong n at zs ≡ Some p → p ≤ at + n
@@ -73,7 +84,7 @@ row_right (suc s) m at (z ∷ zs) rest e = go (is_height z) refl e (row_right s 
     go false et q rec = some_none at _ q
 
 -- neither of two is there
-neither : {X : Type 0} (a b : Option X) → or_else a b ≡ None → (a ≡ None) × (b ≡ None)
+neither : {X : Type 0} (a b : Option X) → option_or a b ≡ None → (a ≡ None) × (b ≡ None)
 neither (Some x) b e = some_none x _ e
 neither None b e = (refl, e)
 
@@ -98,7 +109,7 @@ module _ (s : ℕ) (hs : 0 < s) where
   row_more zero at rows row lt e = absurd (omega arith)
   row_more (suc n) at [] row lt e = let z : at + 0 * s ≡ at = omega arith in rw z (last (first_wrong s at row))
     where
-      last : (o : Option ℕ) → or_else o None ≡ o
+      last : (o : Option ℕ) → option_or o None ≡ o
       last (Some x) = refl
       last None = refl
   row_more (suc n) at (r ∷ rows) row lt e =
@@ -124,7 +135,7 @@ still_wrong s n at p [] more e = some_none p _ (sym e)
 still_wrong s zero at p (r ∷ rows) more e = (e, e)
 still_wrong s (suc n) at p (r ∷ rows) more e = go (first_wrong s at r) e (still_wrong s n (at + s) p rows more)
   where
-    go : (o : Option ℕ) → or_else o (wrong_so_far s n (at + s) rows) ≡ Some p → (wrong_so_far s n (at + s) rows ≡ Some p → (wrong_so_far s n (at + s) (rows ++ more) ≡ Some p) × (rows_wrong s n (at + s) rows ≡ Some p)) →
-        (or_else o (wrong_so_far s n (at + s) (rows ++ more)) ≡ Some p) × (or_else o (rows_wrong s n (at + s) rows) ≡ Some p)
+    go : (o : Option ℕ) → option_or o (wrong_so_far s n (at + s) rows) ≡ Some p → (wrong_so_far s n (at + s) rows ≡ Some p → (wrong_so_far s n (at + s) (rows ++ more) ≡ Some p) × (rows_wrong s n (at + s) rows ≡ Some p)) →
+        (option_or o (wrong_so_far s n (at + s) (rows ++ more)) ≡ Some p) × (option_or o (rows_wrong s n (at + s) rows) ≡ Some p)
     go (Some x) q rec = (q, q)
     go None q rec = rec q

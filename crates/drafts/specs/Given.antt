@@ -6,6 +6,7 @@
 --     map_given           the map that they make
 use Rattle.std.specs.Prelude.{ℕ, zero, suc, ◌+◌, List, [], ◌∷◌, ◌++◌, ℤ, Some, None, Option, nat_lt}
 use Rattle.std.specs.List.{flat_map}
+use Rattle.std.specs.Option.{option_or}
 use Rattle.levels.specs.Maps.{power}
 use Rattle.levels.specs.Numbering.{map_in}
 use Rattle.maps.specs.Limits.{max_k}
@@ -20,15 +21,11 @@ pub record Given : Type 0 where
   pub rows : List (List ℤ)
   pub unreadable : Option ℕ
 
-abbrev pub or_else : {X : Type 0} → Option X → Option X → Option X
-or_else (Some x) later = Some x
-or_else None later = later
-
 unfoldable pub no_rows : ℕ → Given
 no_rows k = record { k = k; rows = []; unreadable = None }
 
 unfoldable pub with_row : Given → (line : ℕ) → Option (List ℤ) → Given
-with_row g line None = record { k = g.k; rows = g.rows; unreadable = or_else g.unreadable (Some line) }
+with_row g line None = record { k = g.k; rows = g.rows; unreadable = option_or g.unreadable (Some line) }
 with_row g line (Some row) = record { k = g.k; rows = g.rows ++ row ∷ []; unreadable = g.unreadable }
 
 -- of n rows of s places, the first of which is counted as `at`
@@ -36,7 +33,7 @@ unfoldable pub rows_wrong : (s n at : ℕ) → List (List ℤ) → Option ℕ
 rows_wrong s zero at [] = None
 rows_wrong s zero at (row ∷ rows) = Some at
 rows_wrong s (suc n) at [] = Some at
-rows_wrong s (suc n) at (row ∷ rows) = or_else (first_wrong s at row) (rows_wrong s n (at + s) rows)
+rows_wrong s (suc n) at (row ∷ rows) = option_or (first_wrong s at row) (rows_wrong s n (at + s) rows)
 
 abbrev pub unreadable_at : Option ℕ → Option Refusal → Option Refusal
 unreadable_at (Some line) later = Some (Unreadable line)

@@ -1,13 +1,13 @@
 -- Answers as text. Bytes are numbers below 256. Assumes nothing: these are definitions.
 --     row_text            numbers in one line, parted by one blank
---     refusal_text        a refusal in one line: its number and its place
+--     refusal_text        a refusal in one line
 --     rows_of             numbers that stand row by row, cut into rows
 --     Answer, answer_text what a command answers, and its text: rows of numbers, one to a line, or a refusal; a command that prints nothing answers no rows
-use Rattle.std.specs.Prelude.{ℕ, ◌*◌, List, [], ◌∷◌, ◌++◌, map, take, drop, ℤ, codes, decimal}
+use Rattle.std.specs.Prelude.{ℕ, ◌*◌, List, [], ◌∷◌, ◌++◌, map, take, drop, ℤ, codes}
 use Rattle.std.specs.List.{range_with_len, flat_map}
 use Rattle.std.specs.Fmt.{signed_decimal}
 use Rattle.refusals.specs.declared.Refusal.{Refusal}
-use Rattle.refusals.specs.Refusals.{number, place}
+use Rattle.refusals.specs.Refusals.{refused_text}
 
 -- each behind a blank, and the line's end
 unfoldable pub rest_text : List ℤ → List ℕ
@@ -19,7 +19,7 @@ row_text [] = codes "\n"
 row_text (z ∷ zs) = signed_decimal z ++ rest_text zs
 
 unfoldable pub refusal_text : Refusal → List ℕ
-refusal_text e = codes "refused " ++ (decimal (number e) ++ (codes " " ++ (decimal (place e) ++ codes "\n")))
+refusal_text e = refused_text e ++ codes "\n"
 
 unfoldable pub rows_of : (wide high : ℕ) → List ℤ → List (List ℤ)
 rows_of wide high zs = map (λ v. take wide (drop (v * wide) zs)) (range_with_len 0 high)

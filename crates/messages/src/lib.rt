@@ -1,6 +1,5 @@
-// Messages: what a line of text can ask for, what is answered, and why a run stops before its end.
+// Messages: what a line of text can ask for, and what is answered.
 #![tactic(auto)]
 
 pub mod command;
-pub mod failure;
 pub mod write;

@@ -4,50 +4,54 @@ ghost use Rattle.std.specs.List.{flat_map};
 ghost use Rattle.messages.specs.Writing.{refusal_text, rest_text, row_text, rows_of};
 
 use refusals::Refusal;
-use std::fmt;
+use std::alloc::AllocError;
 
 // The numbers that follow in a line, each behind a blank, and its end.
-fn write_rest(out: &mut String, numbers: &[i32]) -> fmt::Result
+fn write_rest(out: &mut String, numbers: &[i32]) -> Result<(), AllocError>
     ensures { OnOk result (string_bytes out.new ≡ string_bytes out.old ++ rest_text numbers.now) }
 {
     for number in numbers {
         write!(out, " {number}")?;
     }
-    write!(out, "\n")?;
-    Ok(())
+    write!(out, "\n")
 }
 
 // Numbers in one line, parted by one blank.
-pub fn write_row(out: &mut String, numbers: &[i32]) -> fmt::Result
+pub fn write_row(out: &mut String, numbers: &[i32]) -> Result<(), AllocError>
     ensures { OnOk result (string_bytes out.new ≡ string_bytes out.old ++ row_text numbers.now) }
 {
-    if numbers.len() == 0 {
-        write!(out, "\n")?;
-        return Ok(());
+    match numbers {
+        [first, others @ ..] => {
+            write!(out, "{first}")?;
+            write_rest(out, others)
+        }
+        [] => write!(out, "\n"),
     }
-    let first = &numbers[0];
-    write!(out, "{first}")?;
-    write_rest(out, &numbers[1..])
 }
 
 // Numbers that stand row by row, so many to a line.
-pub fn write_rows(out: &mut String, numbers: &[i32], wide: usize, high: usize) -> fmt::Result
+pub fn write_rows(
+    out: &mut String,
+    numbers: &[i32],
+    wide: usize,
+    high: usize,
+) -> Result<(), AllocError>
     requires { wide * high ≤ length numbers.now }
     ensures { OnOk result (string_bytes out.new ≡ string_bytes out.old ++ flat_map row_text (rows_of wide high numbers.now)) }
 {
-    for v in 0..high {
-        let begin = v * wide;
-        write_row(out, &numbers[begin..begin + wide])?;
+    let mut rest = numbers;
+    // A row may have no places, which `chunks` does not take.
+    for _v in 0..high {
+        let (row, later) = rest.split_at(wide);
+        write_row(out, row)?;
+        rest = later;
     }
     Ok(())
 }
 
-// A refusal in one line: its number and its place.
-pub fn write_refusal(out: &mut String, refusal: Refusal) -> fmt::Result
+// A refusal in one line.
+pub fn write_refusal(out: &mut String, refusal: Refusal) -> Result<(), AllocError>
     ensures { OnOk result (string_bytes out.new ≡ string_bytes out.old ++ refusal_text refusal) }
 {
-    let number = refusal.number();
-    let place = refusal.place();
-    write!(out, "refused {number} {place}\n")?;
-    Ok(())
+    write!(out, "{refusal}\n")
 }

@@ -1,7 +1,8 @@
 -- The numbers and the places of refusals. Assumes nothing: these are definitions.
 --     number, place       what each case is known by outside
+--     refused_text        how a refusal prints: its number and its place
 --     refused_if          a refusal where a test applies, and else what the later tests give: a list of refusals is written in the order of its checks
-use Rattle.std.specs.Prelude.{ℕ, Bool, true, false, Some, Option}
+use Rattle.std.specs.Prelude.{ℕ, Bool, true, false, List, ◌++◌, Some, codes, decimal, Option}
 use Rattle.refusals.specs.declared.Refusal.{Refusal}
 use Rattle.refusals.specs.declared.Refusal.TheVariants.{TooManyLevels, WrongNumber, WrongRoom, NoSuchLevel, OffTheMap, TooHigh, Unreadable}
 
@@ -23,6 +24,9 @@ place NoSuchLevel = 0
 place OffTheMap = 1
 place TooHigh = 2
 place (Unreadable line) = line
+
+abbrev pub refused_text : Refusal → List ℕ
+refused_text e = codes "refused " ++ (decimal (number e) ++ (codes " " ++ decimal (place e)))
 
 abbrev pub refused_if : Bool → Refusal → Option Refusal → Option Refusal
 refused_if true r later = Some r

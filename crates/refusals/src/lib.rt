@@ -1,8 +1,11 @@
 // Why a call or a line of text is refused.
 #![tactic(auto)]
 
-ghost use Rattle.std.specs.Prelude.{◌≡◌};
-ghost use Rattle.refusals.specs.Refusals.{number as number_of, place as place_of};
+ghost use Rattle.std.specs.Prelude.{◌≡◌, Some};
+ghost use Rattle.refusals.specs.Refusals.{number as number_of, place as place_of, refused_text};
+
+use std::error::Error;
+use std::fmt;
 
 // Each case with its place.
 #[derive(Clone, Copy, PartialEq, Eq, Debug)]
@@ -32,9 +35,7 @@ impl Refusal {
             Refusal::TooManyLevels(_) => 1,
             Refusal::WrongNumber(_) => 2,
             Refusal::WrongRoom(_) => 3,
-            Refusal::NoSuchLevel => 4,
-            Refusal::OffTheMap => 4,
-            Refusal::TooHigh => 4,
+            Refusal::NoSuchLevel | Refusal::OffTheMap | Refusal::TooHigh => 4,
             Refusal::Unreadable(_) => 5,
         }
     }
@@ -54,3 +55,16 @@ impl Refusal {
         }
     }
 }
+
+// Its number and its place.
+impl fmt::Display for Refusal {
+    ghost output = { λ e. Some (refused_text e) };
+
+    fn fmt<W: fmt::Write>(&self, f: &mut fmt::Formatter<W>) -> fmt::Result {
+        let number = self.number();
+        let place = self.place();
+        write!(f, "refused {number} {place}")
+    }
+}
+
+impl Error for Refusal {}

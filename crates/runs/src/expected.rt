@@ -3,8 +3,7 @@ use crate::given::{Refused, Rows};
 use crate::halving::{Grid, level_of, side_of, tower_of};
 use crate::reading::{is_row, lines_of, numbers_of, words_of};
 use crate::tally::Tally;
-use messages::failure::Failure;
-use std::alloc::Global;
+use std::alloc::{AllocError, Global};
 
 // A part of a map at a level.
 #[derive(Clone, Copy)]
@@ -26,7 +25,7 @@ enum Request {
 }
 
 // What words ask for, if they can be read.
-fn request_of(heap: Global, words: &[&[u8]]) -> Result<Option<Request>, Failure> {
+fn request_of(heap: Global, words: &[&[u8]]) -> Result<Option<Request>, AllocError> {
     let Some((name, rest)) = words.split_first() else {
         return Ok(None);
     };
@@ -64,7 +63,7 @@ fn request_of_one(name: &[u8], number: u64) -> Option<Request> {
 }
 
 // Numbers in one line, parted by one blank.
-fn write_line(out: &mut String, numbers: &[i64]) -> Result<(), Failure> {
+fn write_line(out: &mut String, numbers: &[i64]) -> Result<(), AllocError> {
     let mut gap = "";
     for number in numbers {
         write!(out, "{gap}{number}")?;
@@ -80,7 +79,7 @@ fn on_side(from: u64, many: u64, side: u64) -> bool {
 }
 
 // A part written, a line for each row.
-fn write_part(heap: Global, out: &mut String, grid: &Grid, part: Part) -> Result<(), Failure> {
+fn write_part(heap: Global, out: &mut String, grid: &Grid, part: Part) -> Result<(), AllocError> {
     for v in 0..part.high {
         let mut row = Vec::new(heap);
         for u in 0..part.wide {
@@ -118,7 +117,7 @@ impl Shown {
         heap: Global,
         part: Part,
         out: &mut String,
-    ) -> Result<Option<Refused>, Failure> {
+    ) -> Result<Option<Refused>, AllocError> {
         let side = side_of(self.k, self.level);
         if !on_side(part.x, part.wide, side) || !on_side(part.y, part.high, side) {
             return Ok(Some(Refused {
@@ -155,7 +154,7 @@ impl Shown {
         heap: Global,
         level: u64,
         out: &mut String,
-    ) -> Result<Option<Refused>, Failure> {
+    ) -> Result<Option<Refused>, AllocError> {
         if level > self.k {
             return Ok(Some(Refused {
                 number: 4,
@@ -174,7 +173,7 @@ impl Shown {
         heap: Global,
         request: Request,
         out: &mut String,
-    ) -> Result<Option<Refused>, Failure> {
+    ) -> Result<Option<Refused>, AllocError> {
         match request {
             Request::Map(_) => Ok(None),
             Request::Level(level) => Ok(self.go_to(level)),
@@ -195,7 +194,7 @@ struct Reference {
 }
 
 impl Reference {
-    fn refuse(&mut self, refused: Refused, out: &mut String) -> Result<(), Failure> {
+    fn refuse(&mut self, refused: Refused, out: &mut String) -> Result<(), AllocError> {
         let number = refused.number;
         let place = refused.place;
         self.tally.refused(number);
@@ -204,7 +203,7 @@ impl Reference {
     }
 
     // The rows have ended: their map is taken or refused.
-    fn end_rows(&mut self, heap: Global, out: &mut String) -> Result<(), Failure> {
+    fn end_rows(&mut self, heap: Global, out: &mut String) -> Result<(), AllocError> {
         let Some(rows) = self.rows.take() else {
             return Ok(());
         };
@@ -227,7 +226,7 @@ impl Reference {
         line: u64,
         request: Option<Request>,
         out: &mut String,
-    ) -> Result<(), Failure> {
+    ) -> Result<(), AllocError> {
         let unreadable = Refused {
             number: 5,
             place: line,
@@ -250,7 +249,7 @@ impl Reference {
         line: u64,
         words: &[&[u8]],
         out: &mut String,
-    ) -> Result<(), Failure> {
+    ) -> Result<(), AllocError> {
         if is_row(words) {
             if let Some(rows) = &mut self.rows {
                 return rows.add(heap, words, line);
@@ -276,7 +275,7 @@ fn take_lines(
     reference: &mut Reference,
     lines: &[&[u8]],
     out: &mut String,
-) -> Result<u64, Failure> {
+) -> Result<u64, AllocError> {
     let mut line: u64 = 0;
     for bytes in lines {
         let words = words_of(heap, bytes)?;
@@ -288,7 +287,7 @@ fn take_lines(
 }
 
 // The answers to a text; what was asked and answered is added to the tally.
-pub fn expected(heap: Global, text: &[u8], tally: &mut Tally) -> Result<String, Failure> {
+pub fn expected(heap: Global, text: &[u8], tally: &mut Tally) -> Result<String, AllocError> {
     let mut reference = Reference {
         shown: None,
         rows: None,

@@ -1,8 +1,7 @@
 // The rows of a map as they are given, and what is refused of them.
 use crate::halving::{Grid, side_of};
 use crate::reading::row_numbers_of;
-use messages::failure::Failure;
-use std::alloc::Global;
+use std::alloc::{AllocError, Global};
 
 // A refusal: its number and its place.
 #[derive(Clone, Copy)]
@@ -28,7 +27,7 @@ impl Rows {
     }
 
     // One row more, which stands in a line.
-    pub fn add(&mut self, heap: Global, words: &[&[u8]], line: u64) -> Result<(), Failure> {
+    pub fn add(&mut self, heap: Global, words: &[&[u8]], line: u64) -> Result<(), AllocError> {
         match row_numbers_of(heap, words)? {
             Some(row) => self.numbers.push(row)?,
             None => {
@@ -75,7 +74,7 @@ impl Rows {
     }
 
     // The map of rows of which nothing is refused.
-    pub fn map(&self, heap: Global) -> Result<Grid, Failure> {
+    pub fn map(&self, heap: Global) -> Result<Grid, AllocError> {
         let side = side_of(self.k, 0) as usize;
         let mut cells = Vec::new(heap);
         for row in self.numbers.iter() {

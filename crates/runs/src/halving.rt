@@ -1,6 +1,5 @@
 // Maps halved by rows and then by columns, and their towers, made anew each time.
-use messages::failure::Failure;
-use std::alloc::Global;
+use std::alloc::{AllocError, Global};
 
 // Numbers row by row.
 #[derive(Drop)]
@@ -49,7 +48,7 @@ impl Halved {
     }
 
     // One pair more: its mean, by a division that rounds down, and the first less the second.
-    fn add(&mut self, first: i64, second: i64) -> Result<(), Failure> {
+    fn add(&mut self, first: i64, second: i64) -> Result<(), AllocError> {
         let mean = first.wrapping_add(second).div_euclid(2);
         self.means.cells.push(mean)?;
         self.differences.push(first.wrapping_sub(second))?;
@@ -58,7 +57,7 @@ impl Halved {
 }
 
 // The pairs beside each other.
-fn across(heap: Global, grid: &Grid) -> Result<Halved, Failure> {
+fn across(heap: Global, grid: &Grid) -> Result<Halved, AllocError> {
     let mut halved = Halved::empty(heap, grid.wide / 2, grid.high);
     for y in 0..grid.high {
         for x in 0..grid.wide / 2 {
@@ -70,7 +69,7 @@ fn across(heap: Global, grid: &Grid) -> Result<Halved, Failure> {
 }
 
 // The pairs one below the other.
-fn down(heap: Global, grid: &Grid) -> Result<Halved, Failure> {
+fn down(heap: Global, grid: &Grid) -> Result<Halved, AllocError> {
     let mut halved = Halved::empty(heap, grid.wide, grid.high / 2);
     for y in 0..grid.high / 2 {
         for x in 0..grid.wide {
@@ -82,7 +81,7 @@ fn down(heap: Global, grid: &Grid) -> Result<Halved, Failure> {
 }
 
 // The map at a level.
-pub fn level_of(heap: Global, map: &Grid, level: u64) -> Result<Grid, Failure> {
+pub fn level_of(heap: Global, map: &Grid, level: u64) -> Result<Grid, AllocError> {
     let mut copy = Grid {
         wide: map.wide,
         high: map.high,
@@ -96,7 +95,7 @@ pub fn level_of(heap: Global, map: &Grid, level: u64) -> Result<Grid, Failure> {
 }
 
 // The differences that lead from the level above to this one: those down, and then those across.
-fn add_differences(heap: Global, finer: &Grid, tower: &mut Vec<i64>) -> Result<(), Failure> {
+fn add_differences(heap: Global, finer: &Grid, tower: &mut Vec<i64>) -> Result<(), AllocError> {
     let rows = across(heap, finer)?;
     let columns = down(heap, &rows.means)?;
     tower.extend_from_slice(&columns.differences)?;
@@ -105,7 +104,7 @@ fn add_differences(heap: Global, finer: &Grid, tower: &mut Vec<i64>) -> Result<(
 }
 
 // The tower of a map of k levels: the coarsest level, and then what leads to each finer one.
-pub fn tower_of(heap: Global, map: &Grid, k: u64) -> Result<Vec<i64>, Failure> {
+pub fn tower_of(heap: Global, map: &Grid, k: u64) -> Result<Vec<i64>, AllocError> {
     let mut tower = level_of(heap, map, k)?.cells;
     for step in 1..k.saturating_add(1) {
         let finer = level_of(heap, map, k.saturating_sub(step))?;

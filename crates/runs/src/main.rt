@@ -14,14 +14,13 @@ use crate::expected::expected;
 use crate::script::Script;
 use crate::tally::Tally;
 use anyhow::anyhow;
-use messages::failure::Failure;
 use sessions::Session;
-use std::alloc::Global;
+use std::alloc::{AllocError, Global};
 
 const RUNS: u64 = 400;
 
 // What a session answers to a text that comes in one piece or in two.
-fn answered(heap: Global, first: &[u8], second: &[u8]) -> Result<String, Failure> {
+fn answered(heap: Global, first: &[u8], second: &[u8]) -> Result<String, AllocError> {
     let mut session = Session::new();
     let mut out = String::new(heap);
     session.run(heap, first, &mut out)?;
@@ -51,7 +50,7 @@ impl Compared {
 }
 
 // A text whose bytes are shown as characters.
-fn legible(heap: Global, text: &[u8]) -> Result<String, Failure> {
+fn legible(heap: Global, text: &[u8]) -> Result<String, AllocError> {
     let mut out = String::new(heap);
     for byte in text {
         out.push(char::from(*byte))?;
@@ -60,7 +59,7 @@ fn legible(heap: Global, text: &[u8]) -> Result<String, Failure> {
 }
 
 // A text whose answers differ, and these, on the standard error output.
-fn show(rt: &HostRuntime, text: &[u8], right: &str, answers: &str) -> Result<(), Failure> {
+fn show(rt: &HostRuntime, text: &[u8], right: &str, answers: &str) -> Result<(), AllocError> {
     let text = legible(rt.alloc(), text)?;
     let text = text.as_str();
     let _ = eprintln!(rt; "The text\n{text}\nshould answer\n{right}\nand answers\n{answers}");
@@ -74,7 +73,7 @@ fn compare_run(
     cut: usize,
     right: &str,
     compared: &mut Compared,
-) -> Result<(), Failure> {
+) -> Result<(), AllocError> {
     let before = compared.differ;
     let first = text.get(0..cut).unwrap_or(&[]);
     let second = text.get(cut..).unwrap_or(&[]);
@@ -92,7 +91,7 @@ fn compare_runs(
     rt: &HostRuntime,
     tally: &mut Tally,
     compared: &mut Compared,
-) -> Result<(), Failure> {
+) -> Result<(), AllocError> {
     let mut script = Script::new(rt.alloc(), 20261117);
     for _ in 0..RUNS {
         let text = script.next_run()?;

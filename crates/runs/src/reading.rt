@@ -1,9 +1,8 @@
 // The lines of a text, the words of a line, and words as numbers.
-use messages::failure::Failure;
-use std::alloc::Global;
+use std::alloc::{AllocError, Global};
 
 // Lines without their ends; behind the last end there is a line only if there is something.
-pub fn lines_of<'a>(heap: Global, text: &'a [u8]) -> Result<Vec<&'a [u8]>, Failure> {
+pub fn lines_of<'a>(heap: Global, text: &'a [u8]) -> Result<Vec<&'a [u8]>, AllocError> {
     let mut lines = Vec::new(heap);
     let mut begin: usize = 0;
     for (i, byte) in text.iter().enumerate() {
@@ -22,7 +21,7 @@ fn is_blank(byte: u8) -> bool {
     matches!(byte, 32 | 9 | 13 | 10)
 }
 
-pub fn words_of<'a>(heap: Global, line: &'a [u8]) -> Result<Vec<&'a [u8]>, Failure> {
+pub fn words_of<'a>(heap: Global, line: &'a [u8]) -> Result<Vec<&'a [u8]>, AllocError> {
     let mut words = Vec::new(heap);
     let mut begin: Option<usize> = None;
     for (i, byte) in line.iter().enumerate() {
@@ -82,7 +81,7 @@ pub fn is_row(words: &[&[u8]]) -> bool {
 }
 
 // All words as numbers of a command, or none where one of them is none.
-pub fn numbers_of(heap: Global, words: &[&[u8]]) -> Result<Option<Vec<u64>>, Failure> {
+pub fn numbers_of(heap: Global, words: &[&[u8]]) -> Result<Option<Vec<u64>>, AllocError> {
     let mut numbers = Vec::new(heap);
     for word in words {
         match number_of(word) {
@@ -94,7 +93,7 @@ pub fn numbers_of(heap: Global, words: &[&[u8]]) -> Result<Option<Vec<u64>>, Fai
 }
 
 // All words as numbers of a row, or none where one of them is none.
-pub fn row_numbers_of(heap: Global, words: &[&[u8]]) -> Result<Option<Vec<i64>>, Failure> {
+pub fn row_numbers_of(heap: Global, words: &[&[u8]]) -> Result<Option<Vec<i64>>, AllocError> {
     let mut numbers = Vec::new(heap);
     for word in words {
         match row_number_of(word) {

@@ -4,8 +4,7 @@ use crate::halving::side_of;
 use crate::slips::{
     BAD_LINES, BAD_NAMES, BAD_WORDS, BEGINS, ENDS, Flaw, GAPS, LARGE, NO_HEIGHTS, ODD_HEIGHTS, Slip,
 };
-use messages::failure::Failure;
-use std::alloc::Global;
+use std::alloc::{AllocError, Global};
 
 // A text that is being written; k and level are of the last map that was written whole. Want of memory is remembered and told at the text's end.
 #[derive(Drop)]
@@ -298,7 +297,7 @@ impl Script {
     }
 
     // The text of a run: lines before the first map and rows at the end now and then, and often no end of the last line.
-    pub fn next_run(&mut self) -> Result<Vec<u8>, Failure> {
+    pub fn next_run(&mut self) -> Result<Vec<u8>, AllocError> {
         self.k = 2;
         self.level = 0;
         if self.random.one_in(4) {
@@ -315,7 +314,7 @@ impl Script {
             let _ = self.text.pop();
         }
         if self.full {
-            return Err(Failure::NoMemory);
+            return Err(AllocError);
         }
         Ok(std::mem::replace(&mut self.text, Vec::new(self.heap)))
     }

@@ -1,6 +1,8 @@
 -- A text in pieces that end with their lines. Assumes nothing.
-use Rattle.std.proofs.Common.{◌≡◌, ℕ, Bool, true, false, cond, List, [], ◌∷◌, ◌++◌, sym, refl, append_assoc}
-use Rattle.texts.specs.Words.{is_end, pieces, but_last_empty, lines}
+use Rattle.std.proofs.Common.{◌≡◌, ℕ, Bool, true, false, List, [], ◌∷◌, ◌++◌, sym, refl, ap, ◌∙◌, append_assoc, append-nil}
+use Rattle.std.specs.List.{slice_split, onto_first}
+use Rattle.std.proofs.lemmas.List.Splits.{slice_split-cons_yes, slice_split-cons_no}
+use Rattle.texts.specs.Words.{is_end, but_last_empty, lines}
 use Rattle.texts.proofs.Pieces.{kept_before}
 use Rattle.sessions.specs.Runs.{State, taken, taken_text, after, said}
 use Rattle.sessions.specs.Laws.{RunsInPieces}
@@ -15,22 +17,33 @@ unfolding after said
 said_both s [] ms = refl
 said_both s (l ∷ ls) ms = rw (said_both (taken s l) ls ms) (sym (append_assoc (taken_text s l) (said (taken s l) ls) (said (after (taken s l) ls) ms)))
 
--- what follows a line end begins a line
-lines_after : (piece front rest : List ℕ) → but_last_empty (pieces is_end piece ((front ++ (10 ∷ [])) ++ rest)) ≡ but_last_empty (pieces is_end piece (front ++ (10 ∷ []))) ++ lines rest
-unfolding pieces but_last_empty lines
-lines_after piece [] rest = kept_before is_end piece [] rest
-lines_after piece (b ∷ front) rest = go (is_end b) (lines_after [] front rest) (lines_after (piece ++ (b ∷ [])) front rest)
+-- a text that ends with a line is cut into its lines and an empty rest, whatever follows
+pub record Cut (front : List ℕ) : Type 0 where
+  pub first : List ℕ
+  pub more : List (List ℕ)
+  pub parts : (rest : List ℕ) → slice_split is_end ((front ++ (10 ∷ [])) ++ rest) ≡ first ∷ (more ++ slice_split is_end rest)
+
+cut : (front : List ℕ) → Cut front
+cut [] = record { first = []; more = []; parts = λ rest. refl }
+cut (b ∷ front) = go (is_end b) refl (cut front)
   where
-    go : (t : Bool) → but_last_empty (pieces is_end [] ((front ++ (10 ∷ [])) ++ rest)) ≡ but_last_empty (pieces is_end [] (front ++ (10 ∷ []))) ++ but_last_empty (pieces is_end [] rest) →
-        but_last_empty (pieces is_end (piece ++ (b ∷ [])) ((front ++ (10 ∷ [])) ++ rest)) ≡ but_last_empty (pieces is_end (piece ++ (b ∷ [])) (front ++ (10 ∷ []))) ++ but_last_empty (pieces is_end [] rest) →
-        but_last_empty (cond t (piece ∷ pieces is_end [] ((front ++ (10 ∷ [])) ++ rest)) (pieces is_end (piece ++ (b ∷ [])) ((front ++ (10 ∷ [])) ++ rest)))
-        ≡ but_last_empty (cond t (piece ∷ pieces is_end [] (front ++ (10 ∷ []))) (pieces is_end (piece ++ (b ∷ [])) (front ++ (10 ∷ [])))) ++ but_last_empty (pieces is_end [] rest)
-    go true ends goes = rw (kept_before is_end piece [] ((front ++ (10 ∷ [])) ++ rest), kept_before is_end piece [] (front ++ (10 ∷ [])), ends)
-    go false ends goes = goes
+    go : (t : Bool) → is_end b ≡ t → Cut front → Cut (b ∷ front)
+    go true e c = record { first = []; more = c.first ∷ c.more; parts = λ rest. slice_split-cons_yes is_end b ((front ++ (10 ∷ [])) ++ rest) e ∙ ap (λ ps. [] ∷ ps) (c.parts rest) }
+    go false e c = record { first = b ∷ c.first; more = c.more; parts = λ rest. slice_split-cons_no is_end b ((front ++ (10 ∷ [])) ++ rest) e ∙ ap (onto_first b) (c.parts rest) }
+
+-- a last part that is empty is no line
+kept : (ps : List (List ℕ)) (rest : List ℕ) → but_last_empty (ps ++ slice_split is_end rest) ≡ ps ++ but_last_empty (slice_split is_end rest)
+unfolding but_last_empty
+kept [] rest = refl
+kept (p ∷ []) rest = kept_before is_end p rest
+kept (p ∷ q ∷ ps) rest = ap (λ ls. p ∷ ls) (kept (q ∷ ps) rest)
 
 cut_of : (front rest : List ℕ) → lines ((front ++ (10 ∷ [])) ++ rest) ≡ lines (front ++ (10 ∷ [])) ++ lines rest
-unfolding lines
-cut_of front rest = lines_after [] front rest
+unfolding lines but_last_empty
+cut_of front rest =
+    let c = cut front in
+    let own = ap lines (sym (append-nil (front ++ (10 ∷ [])))) ∙ ap but_last_empty (c.parts []) ∙ kept (c.first ∷ c.more) [] ∙ append-nil (c.first ∷ c.more) in
+    ap but_last_empty (c.parts rest) ∙ kept (c.first ∷ c.more) rest ∙ ap (λ ls. ls ++ lines rest) (sym own)
 
 pub runs_in_pieces_lem : RunsInPieces
 runs_in_pieces_lem s front rest =

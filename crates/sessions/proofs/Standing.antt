@@ -1,6 +1,5 @@
 -- What a session stands for after a step. Assumes nothing.
-use Rattle.std.proofs.Common.{◌≡◌, ℕ, Bool, true, false, List, [], ◌++◌, is_some, IfOk, Some, None, Ok, Err, Option, Result, sym, refl, ap, ◌∙◌, append_assoc, append-nil}
-use Rattle.std.specs.Result as Results
+use Rattle.std.proofs.Common.{◌≡◌, ℕ, Bool, true, false, List, [], ◌++◌, is_some, IfOk, MatchResult, Some, None, Ok, Err, Option, Result, sym, refl, ap, ◌∙◌, append_assoc, append-nil}
 use Rattle.std.proofs.lemmas.Result.{IfOk-weaker}
 use Rattle.std.proofs.lemmas.Bool.{true≢false}
 use Rattle.refusals.specs.declared.Refusal.{Refusal}
@@ -10,39 +9,38 @@ use Rattle.viewer.specs.declared.Viewer.{Viewer}
 use Rattle.viewer.specs.Originals.{Original, answer, next}
 use Rattle.viewer.specs.Shows.{Shows}
 use Rattle.drafts.specs.declared.Draft.{Draft}
+use Rattle.drafts.specs.declared.MapError.{MapError}
+use Rattle.drafts.specs.declared.MapError.TheVariants.{Refused}
 use Rattle.drafts.specs.Given.{Given, no_rows, with_row, map_refusal, map_given}
-use Rattle.drafts.specs.Drafts.{Drafts}
+use Rattle.drafts.specs.Drafts.{Drafts, Refuses}
 use Rattle.drafts.proofs.Rows.{none_from}
 use Rattle.texts.specs.Words.{words}
 use Rattle.texts.specs.Commands.{command, is_row, row}
 use Rattle.sessions.specs.declared.Session.{Session}
-use Rattle.sessions.specs.Runs.{State, next_line, ended, ended_text, begins, obeyed, obeyed_text, asked_given, asked, asked_text, row_of, taken, taken_text}
+use Rattle.sessions.specs.Runs.{State, next_line, ended, rows_ended, ended_text, begins, obeyed, obeyed_text, asked_given, asked, asked_text, row_of, taken, taken_text}
 use Rattle.sessions.specs.Stands.{Both, Stands, Went}
 
 -- what a draft says when its rows have ended
-abbrev pub Finished : Draft → Result Viewer Refusal → Type 0
-Finished d m = (g : Given) → Drafts d g → Results.MatchResult m (λ v. (map_refusal g ≡ None) × Shows v (map_given g)) (λ e. map_refusal g ≡ Some e)
+abbrev pub Finished : Draft → Result Viewer MapError → Type 0
+Finished d m = (g : Given) → Drafts d g → MatchResult m (λ v. (map_refusal g ≡ None) × Shows v (map_given g)) (Refuses (map_refusal g))
 
 rows_taken : (d : Draft) (v : Viewer) (given : Option Given) (before : Option Original) → Finished d (Ok v) → Both Drafts (Some d) given → Both Shows (Some v) (ended given before) × (ended_text given ≡ [])
 unfolding answer_text
 rows_taken d v None before f o = absurd o
 rows_taken d v (Some g) before f o = let t = f g o in (rw t.0 t.1, rw t.0)
 
-rows_refused : (d : Draft) (e : Refusal) (given : Option Given) (before : Option Original) → Finished d (Err e) → Both Drafts (Some d) given → (ended given before ≡ before) × (ended_text given ≡ refusal_text e)
+rows_refused : (d : Draft) (e : Refusal) (given : Option Given) (before : Option Original) → Finished d (Err (Refused e)) → Both Drafts (Some d) given → (ended given before ≡ before) × (ended_text given ≡ refusal_text e)
 unfolding answer_text
 rows_refused d e None before f o = absurd o
 rows_refused d e (Some g) before f o = (rw (f g o), rw (f g o))
 
 module _ {c : Session} {s : State} (o : Stands c s) where
-  abbrev rows_ended : State
-  rows_ended = record { line = s.line; given = None; original = ended s.given s.original }
-
-  pub end_taken : (d : Draft) (v : Viewer) (after : Session) (text : List ℕ) → c.draft ≡ Some d → Finished d (Ok v) → after.line ≡ c.line → after.draft ≡ None → after.viewer ≡ Some v → Went rows_ended (ended_text s.given) after text text
+  pub end_taken : (d : Draft) (v : Viewer) (after : Session) (text : List ℕ) → c.draft ≡ Some d → Finished d (Ok v) → after.line ≡ c.line → after.draft ≡ None → after.viewer ≡ Some v → Went (rows_ended s) (ended_text s.given) after text text
   end_taken d v after text ed f el en ev =
       let t = rows_taken d v s.given s.original f (rw ed at o.draft) in
       record { stands = record { line = el ∙ o.line; draft = rw en tt; viewer = rw ev t.0 }; says = rw t.1 (sym (append-nil text)) }
 
-  pub end_refused : (d : Draft) (e : Refusal) (after : Session) (text written : List ℕ) → c.draft ≡ Some d → Finished d (Err e) → after.line ≡ c.line → after.draft ≡ None → after.viewer ≡ c.viewer → written ≡ text ++ refusal_text e → Went rows_ended (ended_text s.given) after text written
+  pub end_refused : (d : Draft) (e : Refusal) (after : Session) (text written : List ℕ) → c.draft ≡ Some d → Finished d (Err (Refused e)) → after.line ≡ c.line → after.draft ≡ None → after.viewer ≡ c.viewer → written ≡ text ++ refusal_text e → Went (rows_ended s) (ended_text s.given) after text written
   end_refused d e after text written ed f el en ev w =
       let t = rows_refused d e s.given s.original f (rw ed at o.draft) in
       record { stands = record { line = el ∙ o.line; draft = rw en tt; viewer = rw (ev, t.0) o.viewer }; says = rw t.1 w }

@@ -1,7 +1,7 @@
 -- Lines of text taken one after the other, by the map itself and copies halved from it. Assumes nothing: these are definitions.
 --     State               how many lines were taken, the map whose rows are being given, and the map that is looked at
 --     start               before the first line
---     ended, ended_text   the rows of a map have ended: it is taken or refused
+--     ended, rows_ended, ended_text     the rows of a map have ended: it is taken or refused
 --     asked, asked_text   a line that is no row of a map
 --     taken, taken_text   a line, and what it answers
 --     after, said         lines one after the other, and what they answer
@@ -41,6 +41,9 @@ ended (Some g) before = map_or (map_refusal g) before (map_given g)
 abbrev pub ended_text : Option Given → List ℕ
 ended_text None = []
 ended_text (Some g) = answer_text (answered (map_refusal g) [])
+
+abbrev pub rows_ended : State → State
+rows_ended s = record { line = s.line; given = None; original = ended s.given s.original }
 
 -- `map K` begins the rows of a map, any other command asks something of the map that there is
 abbrev pub begins : Command → Option Given

@@ -1,5 +1,5 @@
 -- A session, which has no map but a tower, stands for a state of a run. Assumes nothing: these are definitions.
-use Rattle.std.specs.Prelude.{◌≡◌, ℕ, List, ◌++◌, Some, None, Option}
+use Rattle.std.specs.Prelude.{◌≡◌, ℕ, List, ◌++◌, Some, None, Option, Result, OnOk, String, string_bytes}
 use Rattle.viewer.specs.Shows.{Shows}
 use Rattle.drafts.specs.Drafts.{Drafts}
 use Rattle.sessions.specs.declared.Session.{Session}
@@ -21,3 +21,7 @@ pub record Stands (c : Session) (s : State) : Type 0 where
 pub record Went (next : State) (said : List ℕ) (after : Session) (before written : List ℕ) : Type 0 where
   pub stands : Stands after next
   pub says : written ≡ before ++ said
+
+-- whatever state it stands for, a call that is done leads to the next and says its text
+abbrev pub Moves : {Z E : Type 0} → Result (Unit {0}) E → Session → (next : State → State) → (said : State → List ℕ) → (after : Session) → (out written : String Z) → Type 0
+Moves result c next said after out written = (s : State) → Stands c s → OnOk result (Went (next s) (said s) after (string_bytes out) (string_bytes written))

@@ -1,13 +1,13 @@
 -- What is written is read back. Assumes nothing.
-use Rattle.std.proofs.Common.{◌≡◌, ℕ, suc, ◌+◌, ◌^◌, ◌<◌, false, List, [], ◌∷◌, ◌++◌, map, ℤ, pos, negsuc, neg_ℤ, Some, decimal, refl, ap, ◌∙◌, arith, rules}
+use Rattle.std.proofs.Common.{◌≡◌, ℕ, suc, ◌+◌, ◌^◌, ◌<◌, false, List, [], ◌∷◌, ◌++◌, map, ℤ, pos, negsuc, neg_ℤ, Some, decimal, codes, refl, ap, ◌∙◌, arith, rules}
 use lib.Signed.{mag}
 use Rattle.std.specs.Option.{option_map}
 use Rattle.std.specs.Str.Parse.{AllDigits}
 use Rattle.std.specs.Int.{IsInRange}
 use Rattle.std.specs.Fmt.{signed_decimal}
-use Rattle.std.specs.List.{AllByRecursion}
+use Rattle.std.specs.List.{All, AllByRecursion}
 use Rattle.std.proofs.lemmas.Fmt.{decimal_is_IsNumeral, decimal_nonempty}
-use Rattle.std.proofs.ByRecursion.{All-weaker}
+use Rattle.std.proofs.lemmas.List.Elements.{All-nil, All-cons, All-head, All-tail, All-weaker, All-from_recursion}
 use Rattle.std.proofs.lemmas.Str.Parse.{digit_at, digit_from_value}
 use Rattle.std.proofs.lemmas.Bool.Decides.{nat_tests}
 use Rattle.messages.specs.Writing.{row_text, rest_text}
@@ -46,15 +46,15 @@ digit_whole : (c : ℕ) → IsInRange 48 57 c → is_blank c ≡ false
 digit_whole c h = grind (arith, nat_tests)
 
 digits_whole : (ds : List ℕ) → AllDigits 10 ds → Whole is_blank ds
-digits_whole [] h = tt
-digits_whole (c ∷ cs) h = (digit_whole c (digit_from_value c h.0), digits_whole cs h.1)
+digits_whole [] h = All-nil (λ b. is_blank b ≡ false)
+digits_whole (c ∷ cs) h = All-cons (λ b. is_blank b ≡ false) c cs (digit_whole c (digit_from_value c h.0)) (digits_whole cs h.1)
 
 decimal_word : (n : ℕ) → n < 2 ^ 64 → Word (decimal n)
 decimal_word n h = (decimal_nonempty n h, digits_whole (decimal n) (decimal_is_IsNumeral n h).0.1)
 
 signed_word : (z : ℤ) → mag z + 1 < 2 ^ 63 → Word (signed_decimal z)
 signed_word (pos n) h = decimal_word n (omega arith)
-signed_word (negsuc n) h = (omega arith, (refl, (decimal_word (suc n) (omega arith)).1))
+signed_word (negsuc n) h = (omega arith, All-cons (λ b. is_blank b ≡ false) 45 _ refl (decimal_word (suc n) (omega arith)).1)
 
 -- a word behind a blank
 after_blank : (w rest : List ℕ) (ws : List (List ℕ)) → Word w → Parted is_blank rest → words rest ≡ ws → words (32 ∷ (w ++ rest)) ≡ w ∷ ws
@@ -67,15 +67,15 @@ unfolding rest_text
 parted_rest [] = refl
 parted_rest (z ∷ zs) = refl
 
-rest_words : (zs : List ℤ) → AllByRecursion (λ z. mag z + 1 < 2 ^ 63) zs → words (rest_text zs) ≡ map signed_decimal zs
+rest_words : (zs : List ℤ) → All (λ z. mag z + 1 < 2 ^ 63) zs → words (rest_text zs) ≡ map signed_decimal zs
 unfolding rest_text
 rest_words [] h = words_blank 10 [] refl ∙ words_none
-rest_words (z ∷ zs) h = after_blank (signed_decimal z) (rest_text zs) (map signed_decimal zs) (signed_word z h.0) (parted_rest zs) (rest_words zs h.1)
+rest_words (z ∷ zs) h = after_blank (signed_decimal z) (rest_text zs) (map signed_decimal zs) (signed_word z (All-head (λ z. mag z + 1 < 2 ^ 63) z zs h)) (parted_rest zs) (rest_words zs (All-tail (λ z. mag z + 1 < 2 ^ 63) z zs h))
 
-row_words : (zs : List ℤ) → AllByRecursion (λ z. mag z + 1 < 2 ^ 63) zs → words (row_text zs) ≡ map signed_decimal zs
+row_words : (zs : List ℤ) → All (λ z. mag z + 1 < 2 ^ 63) zs → words (row_text zs) ≡ map signed_decimal zs
 unfolding row_text
 row_words [] h = words_blank 10 [] refl ∙ words_none
-row_words (z ∷ zs) h = words_word (signed_decimal z) (rest_text zs) (signed_word z h.0) (parted_rest zs) ∙ ap (λ ws. signed_decimal z ∷ ws) (rest_words zs h.1)
+row_words (z ∷ zs) h = words_word (signed_decimal z) (rest_text zs) (signed_word z (All-head (λ z. mag z + 1 < 2 ^ 63) z zs h)) (parted_rest zs) ∙ ap (λ ws. signed_decimal z ∷ ws) (rest_words zs (All-tail (λ z. mag z + 1 < 2 ^ 63) z zs h))
 
 pub row_back_lem : RowBack
 unfolding row
@@ -88,21 +88,24 @@ unfolding numbers_text
 parted_numbers [] = tt
 parted_numbers (n ∷ ns) = refl
 
-numbers_words : (ns : List ℕ) → AllByRecursion (λ n. n < 2 ^ 64) ns → words (numbers_text ns) ≡ map decimal ns
+numbers_words : (ns : List ℕ) → All (λ n. n < 2 ^ 64) ns → words (numbers_text ns) ≡ map decimal ns
 unfolding numbers_text
 numbers_words [] h = words_none
-numbers_words (n ∷ ns) h = after_blank (decimal n) (numbers_text ns) (map decimal ns) (decimal_word n h.0) (parted_numbers ns) (numbers_words ns h.1)
+numbers_words (n ∷ ns) h = after_blank (decimal n) (numbers_text ns) (map decimal ns) (decimal_word n (All-head (λ n. n < 2 ^ 64) n ns h)) (parted_numbers ns) (numbers_words ns (All-tail (λ n. n < 2 ^ 64) n ns h))
 
-numbers_back : (ns : List ℕ) → AllByRecursion (λ n. n < 2 ^ 64) ns → all_read number (words (numbers_text ns)) ≡ Some ns
+numbers_back : (ns : List ℕ) → All (λ n. n < 2 ^ 64) ns → all_read number (words (numbers_text ns)) ≡ Some ns
 numbers_back ns h = ap (all_read number) (numbers_words ns h) ∙ all_read_map number decimal ns (All-weaker (λ n. n < 2 ^ 64) (λ n. number (decimal n) ≡ Some n) number_back_lem ns h)
 
+whole_name : (bs : List ℕ) → AllByRecursion (λ b. is_blank b ≡ false) bs → Whole is_blank bs
+whole_name bs h = All-from_recursion (λ b. is_blank b ≡ false) bs h
+
 name_word : (c : Command) → Word (its_name c)
-name_word (Map k) = search rules
-name_word (Level l) = search rules
-name_word (Window x y wide high) = search rules
-name_word (Set x y height) = search rules
-name_word Tower = search rules
-name_word (Coarse l) = search rules
+name_word (Map k) = (search rules, whole_name (codes "map") (search rules))
+name_word (Level l) = (search rules, whole_name (codes "level") (search rules))
+name_word (Window x y wide high) = (search rules, whole_name (codes "window") (search rules))
+name_word (Set x y height) = (search rules, whole_name (codes "set") (search rules))
+name_word Tower = (search rules, whole_name (codes "tower") (search rules))
+name_word (Coarse l) = (search rules, whole_name (codes "coarse") (search rules))
 
 named_back : (c : Command) → named (its_name c) (its_numbers c) ≡ Some c
 unfolding named

@@ -1,8 +1,9 @@
 -- The command of a line, by its name and its numbers. Assumes nothing.
-use Rattle.std.proofs.Common.{◌≡◌, ℕ, true, false, List, [], ◌∷◌, length, get_or, Some, None, codes, Option, sym, refl, ap, ◌∙◌, arith}
+use Rattle.std.proofs.Common.{◌≡◌, ℕ, Bool, true, false, ◌&&◌, ◌||◌, eqb, ◌+◌, List, [], ◌∷◌, length, get_or, Some, None, codes, Option, sym, refl, ap, ◌∙◌, arith}
 use Rattle.std.specs.Str.{bytes_eq}
 use Rattle.std.proofs.lemmas.Slice.Eq.{bytes_eq-Decides}
-use Rattle.std.proofs.lemmas.Bool.{cond-false}
+use Rattle.std.proofs.lemmas.Bool.{cond-false, true≢false, or_parts}
+use Rattle.std.proofs.lemmas.Bool.Decides.{nat_tests}
 use Rattle.messages.specs.declared.command.Command.{Command}
 use Rattle.messages.specs.declared.command.Command.TheVariants.{Map, Level, Window, Set, Tower, Coarse}
 use Rattle.texts.specs.Commands.{no_number, one_number, three_numbers, four_numbers, named, with_numbers, command_of, command}
@@ -79,27 +80,46 @@ pub command_is : (line name : List ℕ) (ws : List (List ℕ)) → words line �
 unfolding command
 command_is line name ws e = ap command_of e
 
--- the first word is the name of a command
-module _ {name : List ℕ} {n : ℕ} {make : List ℕ → Command} (t : Takes name n make) (line w : List ℕ) (ws : List (List ℕ)) (e : words line ≡ w ∷ ws) (same : true ≡ bytes_eq w name) where
-  its_command : command line ≡ with_numbers name (all_read number ws)
-  its_command = command_is line w ws e ∙ ap (λ v. with_numbers v (all_read number ws)) ((bytes_eq-Decides w name).0 (sym same))
+-- a word that is the name of a command
+module _ {name : List ℕ} {n : ℕ} {make : List ℕ → Command} (t : Takes name n make) (w : List ℕ) (same : w ≡ name) (o : Option (List ℕ)) where
+  pub command_right : (ns : List ℕ) → (o ≡ Some ns) × (length ns ≡ n) → with_numbers w o ≡ Some (make ns)
+  command_right ns h = rw (same, h.0) (t.right ns h.1)
 
-  pub command_right : (ns : List ℕ) → (all_read number ws ≡ Some ns) × (length ns ≡ n) → command line ≡ Some (make ns)
-  command_right ns h = its_command ∙ ap (with_numbers name) h.0 ∙ t.right ns h.1
+  pub command_wrong : ((ns : List ℕ) → o ≡ Some ns → length ns ≡ n → ⊥) → with_numbers w o ≡ None
+  command_wrong h = rw same (go o h)
+    where
+      go : (o : Option (List ℕ)) → ((ns : List ℕ) → o ≡ Some ns → length ns ≡ n → ⊥) → with_numbers name o ≡ None
+      go None h = refl
+      go (Some ns) h = t.wrong ns (h ns refl)
 
-  wrong_numbers : (o : Option (List ℕ)) → ((ns : List ℕ) → o ≡ Some ns → length ns ≡ n → ⊥) → with_numbers name o ≡ None
-  wrong_numbers None h = refl
-  wrong_numbers (Some ns) h = t.wrong ns (h ns refl)
+-- the bytes of a word are those of a name
+abbrev pub has_bytes : List ℕ → (i : ℕ) → List ℕ → Bool
+has_bytes w i [] = true
+has_bytes w i (b ∷ bs) = eqb (get_or w i 0) b && has_bytes w (i + 1) bs
 
-  pub command_wrong : ((ns : List ℕ) → all_read number ws ≡ Some ns → length ns ≡ n → ⊥) → command line ≡ None
-  command_wrong h = its_command ∙ wrong_numbers (all_read number ws) h
+abbrev pub spelled : List ℕ → List ℕ → Bool
+spelled w name = eqb (length w) (length name) && has_bytes w 0 name
 
--- the first word is no name
-module _ (w : List ℕ) (a : false ≡ bytes_eq w (codes "map")) (b : false ≡ bytes_eq w (codes "level")) (c : false ≡ bytes_eq w (codes "window")) (d : false ≡ bytes_eq w (codes "set")) (e : false ≡ bytes_eq w (codes "tower")) (f : false ≡ bytes_eq w (codes "coarse")) where
-  no_name : (o : Option (List ℕ)) → with_numbers w o ≡ None
-  unfolding named
-  no_name None = refl
-  no_name (Some ns) = cond-false _ _ _ (sym a) ∙ cond-false _ _ _ (sym b) ∙ cond-false _ _ _ (sym c) ∙ cond-false _ _ _ (sym d) ∙ cond-false _ _ _ (sym e) ∙ cond-false _ _ _ (sym f)
+abbrev pub is_name : List ℕ → Bool
+is_name w = spelled w (codes "map") || (spelled w (codes "level") || (spelled w (codes "window") || (spelled w (codes "set") || (spelled w (codes "tower") || spelled w (codes "coarse")))))
 
-  pub command_other : (line : List ℕ) (ws : List (List ℕ)) → words line ≡ w ∷ ws → command line ≡ None
-  command_other line ws h = command_is line w ws h ∙ no_name (all_read number ws)
+other : (w name : List ℕ) → spelled name name ≡ true → spelled w name ≡ false → bytes_eq w name ≡ false
+other w name same h = go (bytes_eq w name) refl
+  where
+    go : (t : Bool) → bytes_eq w name ≡ t → t ≡ false
+    go true e = absurd (true≢false (sym same ∙ ap (λ v. spelled v name) (sym ((bytes_eq-Decides w name).0 e)) ∙ h))
+    go false e = refl
+
+-- a word that is no name
+pub no_command_lem : (w : List ℕ) (o : Option (List ℕ)) → is_name w ≡ false → with_numbers w o ≡ None
+unfolding named
+no_command_lem w None h = refl
+no_command_lem w (Some ns) h =
+    let a = or_parts _ _ h in
+    let b = or_parts _ _ a.1 in
+    let c = or_parts _ _ b.1 in
+    let d = or_parts _ _ c.1 in
+    let e = or_parts _ _ d.1 in
+    cond-false _ _ _ (other w _ refl a.0) ∙ cond-false _ _ _ (other w _ refl b.0) ∙ cond-false _ _ _ (other w _ refl c.0) ∙ cond-false _ _ _ (other w _ refl d.0) ∙ cond-false _ _ _ (other w _ refl e.0) ∙ cond-false _ _ _ (other w _ refl e.1)
+
+pub ruleset no_command = (no_command_lem, nat_tests)

@@ -2,7 +2,8 @@
 use Rattle.std.proofs.Common.{◌≡◌, ℕ, ◌<◌, false, ◌||◌, eqb, List, [], ◌∷◌, ◌++◌, map, length, get_or, Some, None, Option, sym, refl, ap, ◌∙◌, append_assoc, append-nil, arith, length-append}
 use Rattle.std.specs.Option.{option_map}
 use Rattle.std.specs.Char.{is_ascii_digit}
-use Rattle.std.specs.List.{AllByRecursion}
+use Rattle.std.specs.List.{All}
+use Rattle.std.proofs.lemmas.List.Elements.{All-head, All-tail}
 use Rattle.texts.specs.Words.{words, put_before, all_read}
 use Rattle.texts.specs.Commands.{is_row, begins_row}
 
@@ -47,10 +48,10 @@ module _ {X : Type 0} (reads : List ℕ → Option X) where
     so_far_less ns r = more_than xs (reads w) (all_read reads vs) ns (sym at_word ∙ r)
 
   -- words that were written of xs
-  pub all_read_map : (text : X → List ℕ) (xs : List X) → AllByRecursion (λ x. reads (text x) ≡ Some x) xs → all_read reads (map text xs) ≡ Some xs
+  pub all_read_map : (text : X → List ℕ) (xs : List X) → All (λ x. reads (text x) ≡ Some x) xs → all_read reads (map text xs) ≡ Some xs
   unfolding all_read
   all_read_map text [] h = refl
-  all_read_map text (x ∷ xs) h = ap (λ o. put_before o (all_read reads (map text xs))) h.0 ∙ ap (put_before (Some x)) (all_read_map text xs h.1)
+  all_read_map text (x ∷ xs) h = ap (λ o. put_before o (all_read reads (map text xs))) (All-head (λ x. reads (text x) ≡ Some x) x xs h) ∙ ap (put_before (Some x)) (all_read_map text xs (All-tail (λ x. reads (text x) ≡ Some x) x xs h))
 
 pub row_none : (line : List ℕ) → words line ≡ [] → is_row line ≡ false
 unfolding is_row

@@ -2,7 +2,7 @@
 --     command             the command of a line, or none where it cannot be read
 --     is_row              a line is a row of a map: its first word begins with a digit or a minus sign
 --     row                 the numbers of a row, or none where one of its words is no number
-use Rattle.std.specs.Prelude.{ℕ, Bool, false, cond, ◌||◌, List, [], ◌∷◌, ℤ, Some, None, codes, Option, ◌==◌, slice_index}
+use Rattle.std.specs.Prelude.{ℕ, Bool, false, if◌then◌else◌, ◌||◌, List, [], ◌∷◌, ℤ, Some, None, codes, Option, ◌==◌, slice_index}
 use Rattle.std.specs.Char.{is_ascii_digit}
 use Rattle.std.specs.Str.{bytes_eq}
 use Rattle.messages.specs.declared.command.Command.{Command}
@@ -30,12 +30,13 @@ four_numbers f (a ∷ ns) = three_numbers (f a) ns
 -- by its name and the numbers behind it
 unfoldable pub named : (name : List ℕ) → List ℕ → Option Command
 named name ns =
-    cond (bytes_eq name (codes "map")) (one_number Map ns)
-    (cond (bytes_eq name (codes "level")) (one_number Level ns)
-    (cond (bytes_eq name (codes "window")) (four_numbers Window ns)
-    (cond (bytes_eq name (codes "set")) (three_numbers Set ns)
-    (cond (bytes_eq name (codes "tower")) (no_number Tower ns)
-    (cond (bytes_eq name (codes "coarse")) (one_number Coarse ns) None)))))
+    if bytes_eq name (codes "map") then one_number Map ns
+    else (if bytes_eq name (codes "level") then one_number Level ns
+    else (if bytes_eq name (codes "window") then four_numbers Window ns
+    else (if bytes_eq name (codes "set") then three_numbers Set ns
+    else (if bytes_eq name (codes "tower") then no_number Tower ns
+    else (if bytes_eq name (codes "coarse") then one_number Coarse ns
+    else None)))))
 
 abbrev pub with_numbers : (name : List ℕ) → Option (List ℕ) → Option Command
 with_numbers name None = None

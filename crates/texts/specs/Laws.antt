@@ -2,7 +2,7 @@
 use Rattle.std.specs.Prelude.{◌≡◌, ℕ, ◌+◌, ◌^◌, ◌<◌, List, [], ◌∷◌, ◌++◌, ℤ, Some, codes, decimal}
 use Rattle.std.specs.Int.Signed.{mag}
 use Rattle.std.specs.Fmt.{signed_decimal}
-use Rattle.std.specs.List.{AllByRecursion}
+use Rattle.std.specs.List.{All}
 use Rattle.messages.specs.declared.command.Command.{Command}
 use Rattle.messages.specs.declared.command.Command.TheVariants.{Map, Level, Window, Set, Tower, Coarse}
 use Rattle.texts.specs.Words.{number, height_number}
@@ -18,7 +18,7 @@ HeightBack = (z : ℤ) → mag z + 1 < 2 ^ 63 → height_number (signed_decimal 
 
 -- so a window that was printed can be handed on as rows of a map
 abbrev pub RowBack : Type 0
-RowBack = (zs : List ℤ) → AllByRecursion (λ z. mag z + 1 < 2 ^ 63) zs → row (row_text zs) ≡ Some zs
+RowBack = (zs : List ℤ) → All (λ z. mag z + 1 < 2 ^ 63) zs → row (row_text zs) ≡ Some zs
 
 -- the name of a command, and its numbers
 abbrev pub its_name : Command → List ℕ
@@ -44,4 +44,4 @@ numbers_text (n ∷ ns) = codes " " ++ (decimal n ++ numbers_text ns)
 
 -- the text of a command is read as that command
 abbrev pub CommandBack : Type 0
-CommandBack = (c : Command) → AllByRecursion (λ n. n < 2 ^ 64) (its_numbers c) → command (its_name c ++ numbers_text (its_numbers c)) ≡ Some c
+CommandBack = (c : Command) → All (λ n. n < 2 ^ 64) (its_numbers c) → command (its_name c ++ numbers_text (its_numbers c)) ≡ Some c

@@ -1,54 +1,127 @@
 // Lines and words cut out of a text, and numbers read from words.
-ghost use Rattle.std.specs.Prelude.{◌≡◌, ℕ, ◌^◌, ◌<◌, ◌≤◌, [], ◌∷◌, length, pos, MatchOption, ◌≢◌, slice_index};
+ghost use Rattle.std.specs.Prelude.{◌≡◌, ◌^◌, pos, not};
+ghost use Rattle.std.specs.Iterator.{YieldsFirstRef, item_count};
+ghost use Rattle.std.specs.List.{position};
 ghost use Rattle.std.specs.Option.{option_map};
-ghost use Rattle.texts.specs.Words.{height_number, is_blank, lines, number as number_of, number_below, words};
+ghost use Rattle.texts.specs.Words.{height_number, is_blank, is_end, lines, number as number_of, number_below, words};
+
+use std::marker::Model;
+
+// Where the first line ends, if a line end is there.
+fn find_end(text: &[u8]) -> Option<usize>
+    ensures { result ≡ position is_end text.now }
+{
+    text.iter().position(|byte| *byte == b'\n')
+}
+
+// The lines of a text that are left, each without its end: seen as the list of them.
+#[derive(Drop)]
+pub struct Lines<'a> {
+    rest: &'a [u8],
+}
+
+impl<'a> Model for Lines<'a> {
+    ghost use Rattle.std.specs.Prelude.{ℕ, List};
+
+    ghost Value = { List (List ℕ) };
+
+    ghost use Rattle.texts.specs.Words.{lines};
+
+    ghost view = { λ it. lines it.rest.now };
+}
+
+impl<'a> Lines<'a> {
+    pub fn of(text: &'a [u8]) -> Lines<'a>
+        ensures { result ≡ lines text.now }
+    {
+        Lines { rest: text }
+    }
+}
+
+impl<'a> Iterator for Lines<'a> {
+    type Item = &'a [u8];
+
+    ghost next_gives = { YieldsFirstRef (λ left. left) };
+
+    ghost remaining = { item_count (λ left. left) };
+
+    fn next(&mut self) -> Option<&'a [u8]> {
+        let text = self.rest;
+        if text.is_empty() {
+            return None;
+        }
+        match find_end(text) {
+            Some(end) => {
+                self.rest = &text[end + 1..];
+                Some(&text[..end])
+            }
+            None => {
+                self.rest = &[];
+                Some(text)
+            }
+        }
+    }
+}
 
 // What parts words.
 fn parts_words(byte: u8) -> bool
     ensures { result ≡ is_blank byte }
 {
-    byte == b' ' || byte == b'\t' || byte == b'\r' || byte == b'\n'
+    matches!(byte, b' ' | b'\t' | b'\r' | b'\n')
 }
 
-// How many bytes at the front are blank, or how many are not.
-fn run_length(text: &[u8], blank: bool) -> usize
-    ensures within { result ≤ length text.now }
-    ensures all { (i : ℕ) → i < result → is_blank (slice_index text.now i) ≡ blank }
-    ensures stops { result < length text.now → is_blank (slice_index text.now result) ≢ blank }
+// Where the first word begins.
+fn find_word(text: &[u8]) -> Option<usize>
+    ensures { result ≡ position (λ b. not (is_blank b)) text.now }
 {
-    let mut n = 0;
-    while n < text.len() && parts_words(text[n]) == blank {
-        n += 1;
-    }
-    n
+    text.iter().position(|byte| !parts_words(*byte))
 }
 
-// The first word of a line and what follows it, if it has a word.
-pub fn next_word<'a>(line: &'a [u8]) -> Option<(&'a [u8], &'a [u8])>
-    ensures { MatchOption result (words line.now ≡ []) (λ cut. (words line.now ≡ cut.0.now ∷ words cut.1.now) × (length cut.1.now < length line.now)) }
+// Where the word ends that begins a text, if something parts it from what follows.
+fn find_blank(text: &[u8]) -> Option<usize>
+    ensures { result ≡ position is_blank text.now }
 {
-    let begin = run_length(line, true);
-    let text = &line[begin..];
-    if text.is_empty() {
-        return None;
-    }
-    let end = run_length(text, false);
-    Some((&text[0..end], &text[end..]))
+    text.iter().position(|byte| parts_words(*byte))
 }
 
-// The first line of a text, without its end, and what follows it, if there is something.
-pub fn next_line<'a>(text: &'a [u8]) -> Option<(&'a [u8], &'a [u8])>
-    ensures { MatchOption result (lines text.now ≡ []) (λ cut. (lines text.now ≡ cut.0.now ∷ lines cut.1.now) × (length cut.1.now < length text.now)) }
-{
-    if text.is_empty() {
-        return None;
+// The words of a line that are left: seen as the list of them.
+#[derive(Drop)]
+pub struct Words<'a> {
+    rest: &'a [u8],
+}
+
+impl<'a> Model for Words<'a> {
+    ghost use Rattle.std.specs.Prelude.{ℕ, List};
+
+    ghost Value = { List (List ℕ) };
+
+    ghost use Rattle.texts.specs.Words.{words};
+
+    ghost view = { λ it. words it.rest.now };
+}
+
+impl<'a> Words<'a> {
+    pub fn of(line: &'a [u8]) -> Words<'a>
+        ensures { result ≡ words line.now }
+    {
+        Words { rest: line }
     }
-    let mut end = 0;
-    while end < text.len() && text[end] != b'\n' {
-        end += 1;
+}
+
+impl<'a> Iterator for Words<'a> {
+    type Item = &'a [u8];
+
+    ghost next_gives = { YieldsFirstRef (λ left. left) };
+
+    ghost remaining = { item_count (λ left. left) };
+
+    fn next(&mut self) -> Option<&'a [u8]> {
+        let begin = find_word(self.rest)?;
+        let text = &self.rest[begin..];
+        let (word, rest) = text.split_at(find_blank(text).unwrap_or(text.len()));
+        self.rest = rest;
+        Some(word)
     }
-    let next = if end < text.len() { end + 1 } else { end };
-    Some((&text[0..end], &text[next..]))
 }
 
 // A number of digits alone.
@@ -63,7 +136,9 @@ pub fn read_number(word: &[u8]) -> Option<u64>
         if !byte.is_ascii_digit() {
             return None;
         }
-        number = number.checked_mul(10)?.checked_add((*byte - b'0') as u64)?;
+        number = number
+            .checked_mul(10)?
+            .checked_add(u64::from(*byte - b'0'))?;
     }
     Some(number)
 }

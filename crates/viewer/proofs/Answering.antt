@@ -1,9 +1,9 @@
 -- Each command, obeyed or refused: what is written is its answer, and the viewer stands for what comes next. Assumes nothing.
-use Rattle.std.proofs.Common.{◌≡◌, ℕ, ◌+◌, ◌-◌, ◌*◌, ◌^◌, ◌<◌, ◌≤◌, min, Bool, true, false, ◌&&◌, ltb, List, [], ◌++◌, map, length, get_or, take, drop, ℤ, pos, IfOk, Some, None, Ok, Err, vec_items, vec_len, Option, Result, sym, refl, ap, ◌∙◌, ⊎_elim, append-nil, zero-add, arith, le-ltb, lt-ltb}
+use Rattle.std.proofs.Common.{◌≡◌, ℕ, ◌+◌, ◌-◌, ◌*◌, ◌^◌, ◌<◌, ◌≤◌, min, Bool, true, false, ◌&&◌, ltb, List, [], ◌++◌, map, length, get_or, take, drop, ℤ, pos, OnOk, Some, None, Ok, Err, vec_items, vec_len, Option, Result, sym, refl, ap, ◌∙◌, ⊎_elim, append-nil, zero-add, arith, le-ltb, lt-ltb}
 use Rattle.std.specs.List.{range_with_len, flat_map}
 use Rattle.std.proofs.lemmas.List.FromFn.{length-map-range_with_len, get_or-map-range_with_len, fill_by_all}
 use Rattle.std.proofs.lemmas.List.{length-take-le}
-use Rattle.std.proofs.lemmas.Result.{IfOk-weaker}
+use Rattle.std.proofs.lemmas.Result.{on_ok_weaker}
 use Rattle.std.proofs.str.Laws.{order}
 use Rattle.levels.specs.Maps.{Map, power}
 use Rattle.levels.specs.Listing.{rows_at}
@@ -26,10 +26,10 @@ use Rattle.viewer.specs.Shows.{Shows, Obeyed}
 -- what a call answers tells its refusal
 pub refused_by : (f : Option Refusal) (e : Refusal) (was after : List ℤ) (taken : Type 0) → Answered f (Err e) was after taken → (f ≡ Some e) × (after ≡ was)
 refused_by (Some d) e was after taken a = let r = a.0 in ((cc), a.1)
-refused_by None e was after taken a = let r = a.0 in let z : ◌≡◌ {A = ℕ} 0 1 = cc in absurd (omega arith)
+refused_by None e was after taken a = let r = a.0 in absurd (cc)
 
 pub taken_by : (f : Option Refusal) (was after : List ℤ) (taken : Type 0) → Answered f (Ok tt) was after taken → (f ≡ None) × taken
-taken_by (Some d) was after taken a = let r = a.0 in let z : ◌≡◌ {A = ℕ} 0 1 = cc in absurd (omega arith)
+taken_by (Some d) was after taken a = let r = a.0 in absurd (cc)
 taken_by None was after taken a = (refl, a.1)
 
 module _ {v : Viewer} {o : Original} (s : Shows v o) where
@@ -40,7 +40,7 @@ module _ {v : Viewer} {o : Original} (s : Shows v o) where
   pub as_long : (ts : List ℤ) → ts ≡ vec_items v.tower → length ts ≡ vec_len v.tower
   as_long ts e = ap length e ∙ sym v.tower.ok.0
 
-  pub level_refused : (l : ℕ) (said written : List ℕ) → v.k < l → written ≡ said ++ refusal_text NoSuchLevel → Obeyed o (asks.Level l) v said written
+  level_refused : (l : ℕ) (said written : List ℕ) → v.k < l → written ≡ said ++ refusal_text NoSuchLevel → Obeyed o (asks.Level l) v said written
   unfolding level_refusal answer next answer_text
   level_refused l said written lt e = let t : ltb o.k l ≡ true = lt-ltb o.k l (omega (arith, s.k)) in record { shows = rw t s; says = rw t e }
 
@@ -52,7 +52,7 @@ module _ {v : Viewer} {o : Original} (s : Shows v o) where
 
   -- a call of `change` on the tower
   module _ (after : Viewer) (ek : after.k ≡ v.k) (el : after.level ≡ v.level) (ts us : List ℤ) (et : ts ≡ vec_items v.tower) (eu : vec_items after.tower ≡ us) (x y g : ℕ) where
-    pub height_refused : (e : Refusal) (said written : List ℕ) → Answered (change_refusal v.k (length ts) x y g) (Err e) ts us (ChangedTower v.k ts x y g us) → written ≡ said ++ refusal_text e → Obeyed o (asks.Set x y g) after said written
+    height_refused : (e : Refusal) (said written : List ℕ) → Answered (change_refusal v.k (length ts) x y g) (Err e) ts us (ChangedTower v.k ts x y g us) → written ≡ said ++ refusal_text e → Obeyed o (asks.Set x y g) after said written
     unfolding answer next answer_text
     height_refused e said written a w =
         let r = refused_by _ e ts us _ a in
@@ -66,7 +66,7 @@ module _ {v : Viewer} {o : Original} (s : Shows v o) where
         let f : change_refusal o.k (places o.k) x y g ≡ None = sym (as_checked (λ k n. change_refusal k n x y g) _ (as_long ts et)) ∙ r.0 in
         record { shows = rw f (record { k = ek ∙ s.k; level = el ∙ s.level; holds = rw eu ((rw s.k at r.1).holds o.heights (rw (sym et) at s.holds)) }); says = rw f (sym (append-nil said)) }
 
-  pub tower_told : (ts : List ℤ) (said written : List ℕ) → ts ≡ vec_items v.tower → written ≡ said ++ row_text ts → written ≡ said ++ answer_text (answer o asks.Tower)
+  tower_told : (ts : List ℤ) (said written : List ℕ) → ts ≡ vec_items v.tower → written ≡ said ++ row_text ts → written ≡ said ++ answer_text (answer o asks.Tower)
   unfolding answer answer_text places
   tower_told ts said written et w =
       let long : length ts ≡ power o.k * power o.k = as_checked (λ k n. n) _ (as_long ts et) in
@@ -74,11 +74,11 @@ module _ {v : Viewer} {o : Original} (s : Shows v o) where
 
   -- the tower has n numbers
   module _ (l n : ℕ) (en : n ≡ vec_len v.tower) (said written : List ℕ) where
-    pub coarse_refused : (e : Refusal) → coarse_refusal v.k n l ≡ Some e → written ≡ said ++ refusal_text e → written ≡ said ++ answer_text (answer o (asks.Coarse l))
+    coarse_refused : (e : Refusal) → coarse_refusal v.k n l ≡ Some e → written ≡ said ++ refusal_text e → written ≡ said ++ answer_text (answer o (asks.Coarse l))
     unfolding answer answer_text
     coarse_refused e r w = rw (sym (as_checked (λ k n. coarse_refusal k n l) n en) ∙ r) w
 
-    pub coarse_told : (m : ℕ) (ts part : List ℤ) → ts ≡ vec_items v.tower → coarse_refusal v.k n l ≡ None → CanHand v.k n l m →
+    coarse_told : (m : ℕ) (ts part : List ℤ) → ts ≡ vec_items v.tower → coarse_refusal v.k n l ≡ None → CanHand v.k n l m →
         Handed (coarse_refusal v.k (length ts) l) part (CoarsePart v.k ts l part) → written ≡ said ++ row_text part → written ≡ said ++ answer_text (answer o (asks.Coarse l))
     unfolding answer answer_text coarse_of seen places
     coarse_told m ts part et r can handed w =
@@ -117,22 +117,48 @@ module _ {v : Viewer} {o : Original} (s : Shows v o) (ts : List ℤ) (et : ts �
   as_refused : window_refusal v.k (length ts) v.level x y w h m ≡ window_refusal o.k (places o.k) o.level x y w h (w * h)
   as_refused = as_checked s (λ k n. window_refusal k n v.level x y w h m) _ (as_long s ts et) ∙ ap (λ (l : ℕ). window_refusal o.k (places o.k) l x y w h m) s.level ∙ room_same o.k (places o.k) o.level x y w h m em
 
-  pub window_refused : (e : Refusal) → Answered (window_refusal v.k (length ts) v.level x y w h m) (Err e) was room (ShownWindow v.k ts v.level x y w h room) → written ≡ said ++ refusal_text e → written ≡ said ++ answer_text (answer o (asks.Window x y w h))
+  window_refused : (e : Refusal) → Answered (window_refusal v.k (length ts) v.level x y w h m) (Err e) was room (ShownWindow v.k ts v.level x y w h room) → written ≡ said ++ refusal_text e → written ≡ said ++ answer_text (answer o (asks.Window x y w h))
   unfolding answer answer_text
   window_refused e a f = rw (sym as_refused ∙ (refused_by _ e was room _ a).0) f
 
-  pub window_told : Answered (window_refusal v.k (length ts) v.level x y w h m) (Ok tt) was room (ShownWindow v.k ts v.level x y w h room) → written ≡ said ++ flat_map row_text (rows_of w h room) → written ≡ said ++ answer_text (answer o (asks.Window x y w h))
+  window_told : Answered (window_refusal v.k (length ts) v.level x y w h m) (Ok tt) was room (ShownWindow v.k ts v.level x y w h room) → written ≡ said ++ flat_map row_text (rows_of w h room) → written ≡ said ++ answer_text (answer o (asks.Window x y w h))
   unfolding answer answer_text seen
   window_told a f =
       let r = taken_by _ was room _ a in
       let shown : ShownWindow o.k ts o.level x y w h room = rw (s.k, s.level) at r.1 in
       rw (sym as_refused ∙ r.0, ← window_rows x y w h room _ shown.length_is (shown.shows o.heights (rw et s.holds))) f
 
-module _ {v : Viewer} {o : Original} where
-  pub map_told : Shows v o → (k : ℕ) (said : List ℕ) → Obeyed o (asks.Map k) v said said
-  unfolding answer next answer_text
-  map_told s k said = record { shows = s; says = sym (append-nil said) }
+-- what a call says that writes the answer, where it is done
+module _ {X Y : Type 0} (r : Result X Y) (v : Viewer) where
+  pub refuse_level : (l : ℕ) (said written : List ℕ) → v.k < l → OnOk r (written ≡ said ++ refusal_text NoSuchLevel) → OnOk r ((o : Original) → Shows v o → Obeyed o (asks.Level l) v said written)
+  refuse_level l said written lt = on_ok_weaker r (λ w o s. level_refused s l said written lt w)
+
+  module _ (after : Viewer) (ek : after.k ≡ v.k) (el : after.level ≡ v.level) (ts us : List ℤ) (et : ts ≡ vec_items v.tower) (eu : vec_items after.tower ≡ us) (x y g : ℕ) where
+    pub refuse_height : (e : Refusal) (said written : List ℕ) → Answered (change_refusal v.k (length ts) x y g) (Err e) ts us (ChangedTower v.k ts x y g us) → OnOk r (written ≡ said ++ refusal_text e) → OnOk r ((o : Original) → Shows v o → Obeyed o (asks.Set x y g) after said written)
+    refuse_height e said written a = on_ok_weaker r (λ w o s. height_refused s after ek el ts us et eu x y g e said written a w)
+
+  pub tell_tower : (ts : List ℤ) (said written : List ℕ) → ts ≡ vec_items v.tower → OnOk r (written ≡ said ++ row_text ts) → OnOk r ((o : Original) → Shows v o → written ≡ said ++ answer_text (answer o asks.Tower))
+  tell_tower ts said written et = on_ok_weaker r (λ w o s. tower_told s ts said written et w)
+
+  module _ (l n : ℕ) (en : n ≡ vec_len v.tower) (said written : List ℕ) where
+    pub refuse_coarse : (e : Refusal) → coarse_refusal v.k n l ≡ Some e → OnOk r (written ≡ said ++ refusal_text e) → OnOk r ((o : Original) → Shows v o → written ≡ said ++ answer_text (answer o (asks.Coarse l)))
+    refuse_coarse e f = on_ok_weaker r (λ w o s. coarse_refused s l n en said written e f w)
+
+    pub tell_coarse : (m : ℕ) (ts part : List ℤ) → ts ≡ vec_items v.tower → coarse_refusal v.k n l ≡ None → CanHand v.k n l m →
+        Handed (coarse_refusal v.k (length ts) l) part (CoarsePart v.k ts l part) → OnOk r (written ≡ said ++ row_text part) → OnOk r ((o : Original) → Shows v o → written ≡ said ++ answer_text (answer o (asks.Coarse l)))
+    tell_coarse m ts part et f can handed = on_ok_weaker r (λ w o s. coarse_told s l n en said written m ts part et f can handed w)
+
+  module _ (ts : List ℤ) (et : ts ≡ vec_items v.tower) (x y w h m : ℕ) (em : m ≡ min (min (w * h) (2 ^ 64 - 1)) 16384) (was room : List ℤ) (said written : List ℕ) where
+    pub refuse_window : (e : Refusal) → Answered (window_refusal v.k (length ts) v.level x y w h m) (Err e) was room (ShownWindow v.k ts v.level x y w h room) → OnOk r (written ≡ said ++ refusal_text e) → OnOk r ((o : Original) → Shows v o → written ≡ said ++ answer_text (answer o (asks.Window x y w h)))
+    refuse_window e a = on_ok_weaker r (λ f o s. window_refused s ts et x y w h m em was room said written e a f)
+
+    pub tell_window : Answered (window_refusal v.k (length ts) v.level x y w h m) (Ok tt) was room (ShownWindow v.k ts v.level x y w h room) → OnOk r (written ≡ said ++ flat_map row_text (rows_of w h room)) → OnOk r ((o : Original) → Shows v o → written ≡ said ++ answer_text (answer o (asks.Window x y w h)))
+    tell_window a = on_ok_weaker r (λ f o s. window_told s ts et x y w h m em was room said written a f)
 
   -- a command that leaves the viewer as it is
-  pub only_told : {X Y : Type 0} (r : Result X Y) (s : Shows v o) (c : Command) (said written : List ℕ) → next o c ≡ o → IfOk r (λ _. written ≡ said ++ answer_text (answer o c)) → IfOk r (λ _. Obeyed o c v said written)
-  only_told r s c said written e told = IfOk-weaker r _ _ (λ _ w. record { shows = rw e s; says = w }) told
+  pub only_told : (c : Command) (said written : List ℕ) → ((o : Original) → next o c ≡ o) → OnOk r ((o : Original) → Shows v o → written ≡ said ++ answer_text (answer o c)) → OnOk r ((o : Original) → Shows v o → Obeyed o c v said written)
+  only_told c said written e = on_ok_weaker r (λ told o s. record { shows = rw (e o) s; says = told o s })
+
+pub map_told : {v : Viewer} {o : Original} → Shows v o → (k : ℕ) (said : List ℕ) → Obeyed o (asks.Map k) v said said
+unfolding answer next answer_text
+map_told s k said = record { shows = s; says = sym (append-nil said) }

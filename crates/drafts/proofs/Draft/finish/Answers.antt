@@ -1,21 +1,24 @@
 use Rattle.std.proofs.Common.{ℕ, ◌*◌, vec_items, ap, ◌∙◌, rules}
 use Rattle.std.proofs.lemmas.List.{with_items_is}
+use Rattle.std.proofs.lemmas.Result.{err_from_is_err_and}
 use Rattle.tower.specs.Checks.{places}
 use Rattle.drafts.proofs.Standing.{few, finish_refused, finish_taken}
 use Rattle.drafts.proofs.Draft.finish.Goals as goal
 
 pub overflow_mul-side : goal.overflow_mul-side
-overflow_mul-side c = let most = few _ _ c.in-Ok.ensures.side in search rules
+overflow_mul-side c = let most = few _ _ c.in_ok-side.ensures.side in search rules
 
 pub new-requires : goal.new-requires
 unfolding places
 new-requires c =
-    let side = c.in-Ok.ensures.side in
+    let side = c.in_ok-side.ensures.side in
     record { levels = side.levels; whole = c.in_ok-tower.ensures.len ∙ ap (λ (s : ℕ). s * s) side.value }
 
-pub returns-in-Ok-build : goal.returns-in-Ok-build
-returns-in-Ok-build c = λ g o.
-    finish_taken o (c.in-Ok.ensures.tells g o) _ _ _ c.deref.ensures.value _ (c.deref_mut.ensures.len ∙ c.in_ok-tower.ensures.len) _ c.new.ensures.0 c.new.ensures.1.0 (ap vec_items c.new.ensures.1.1 ∙ with_items_is c.in_ok-tower.tower _ (c.build.auto.room ∙ c.deref_mut.ensures.len)) c.in-Ok-build.ensures
+pub returns-in_err-build : goal.returns-in_err-build
+returns-in_err-build c =
+    λ g o. let p = err_from_is_err_and c.from_residual-in_err-build.result c.from_residual-in_err-build.ensures.1 in
+    rw (p.1, p.2) (finish_refused o (c.in_ok-side.ensures.tells g o) _ _ _ c.deref.ensures.value _ (c.deref_mut.ensures.len ∙ c.in_ok-tower.ensures.len) _ c.in_err-build.ensures)
 
 pub returns : goal.returns
-returns c = λ g o. finish_refused o (c.in-Ok.ensures.tells g o) _ _ _ c.deref.ensures.value _ (c.deref_mut.ensures.len ∙ c.in_ok-tower.ensures.len) _ c.in-Err-build.ensures
+returns c = λ g o.
+    finish_taken o (c.in_ok-side.ensures.tells g o) _ _ _ c.deref.ensures.value _ (c.deref_mut.ensures.len ∙ c.in_ok-tower.ensures.len) _ c.new.ensures.0 c.new.ensures.1.0 (ap vec_items c.new.ensures.1.1 ∙ with_items_is c.in_ok-tower.tower _ (c.build.auto.room ∙ c.deref_mut.ensures.len)) c.in_ok-build.ensures

@@ -5,4 +5,4 @@ pub loop-number-preserved : goal.loop-number-preserved
 loop-number-preserved c = rest_more _ _ _ _ _ c.loop-number-test.true c.in_ok-write.ensures.bytes c.loop-number.invariant
 
 pub returns : goal.returns
-returns c = rest_end _ _ _ _ _ c.loop-number-test.false c.in_ok-write-2.ensures.bytes c.loop-number.invariant
+returns c = rest_end c.write-2.result _ _ _ _ _ c.loop-number-test.false c.write-2.ensures.bytes c.loop-number.invariant

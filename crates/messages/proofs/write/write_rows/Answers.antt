@@ -1,23 +1,17 @@
-use Rattle.std.proofs.Common.{sym, append-nil, arith, rules}
+use Rattle.std.proofs.Common.{sym, append-nil, rules}
 use Rattle.messages.specs.Writing.{rows_of}
-use Rattle.messages.proofs.Rows.{rows_within, rows_more}
+use Rattle.messages.proofs.Rows.{rows_left, left_next, rows_more}
 use Rattle.messages.proofs.write.write_rows.Goals as goal
+
+pub split_at-requires : goal.split_at-requires
+split_at-requires c = rows_left _ _ _ _ _ c.loop-v-test.true c.requires c.loop-v.invariant.left
 
 pub loop-v-init : goal.loop-v-init
 unfolding rows_of
-loop-v-init c = sym (append-nil _)
-
-pub overflow_mul-begin : goal.overflow_mul-begin
-overflow_mul-begin c = let h = rows_within _ _ _ _ c.loop-v-test.true c.requires in search rules
-
-pub overflow_add-begin : goal.overflow_add-begin
-overflow_add-begin c = let h = rows_within _ _ _ _ c.loop-v-test.true c.requires in search rules
-
-pub slice_bounds-write_row-end : goal.slice_bounds-write_row-end
-slice_bounds-write_row-end c = let h = rows_within _ _ _ _ c.loop-v-test.true c.requires in search rules
-
-pub offset_bounds-numbers-begin : goal.offset_bounds-numbers-begin
-offset_bounds-numbers-begin c = let h = rows_within _ _ _ _ c.loop-v-test.true c.requires in search rules
+loop-v-init c = record { written = sym (append-nil _); left = search rules }
 
 pub loop-v-preserved : goal.loop-v-preserved
-loop-v-preserved c = rows_more _ _ _ _ _ _ _ (omega arith) c.loop-v.invariant c.in_ok-write_row.ensures
+loop-v-preserved c = record {
+  written = rows_more _ _ _ _ _ _ _ c.loop-v.invariant.written c.loop-v.invariant.left (rw c.split_at.ensures.front at c.in_ok-write_row.ensures);
+  left = left_next _ _ _ _ _ c.loop-v.invariant.left c.split_at.ensures.back;
+}

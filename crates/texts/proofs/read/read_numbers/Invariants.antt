@@ -1,7 +1,10 @@
 use Rattle.std.proofs.Common.{◌≡◌, length, take}
-use Rattle.texts.specs.Words.{words, number}
+use Rattle.texts.specs.Words.{number}
 use Rattle.texts.proofs.Readings.{ReadSoFar}
 use Rattle.texts.proofs.read.read_numbers.Given as goal
 
-abbrev pub invariant-loop-i : goal.invariant-loop-i
-invariant-loop-i g l = (length l.numbers ≡ g.row.N) × ReadSoFar number (words l.text) (words l.rest) (take l.i l.numbers)
+abbrev pub invariant-loop-number : goal.invariant-loop-number
+invariant-loop-number g l = record {
+  long : length l.number-items ≡ g.row.N;
+  read : ReadSoFar number l.initial.words l.words (take l.number-index l.number-items);
+}

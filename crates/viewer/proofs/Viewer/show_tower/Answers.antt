@@ -1,5 +1,5 @@
-use Rattle.viewer.proofs.Answering.{tower_told}
+use Rattle.viewer.proofs.Answering.{tell_tower}
 use Rattle.viewer.proofs.Viewer.show_tower.Goals as goal
 
 pub returns : goal.returns
-returns c = λ o s. tower_told s _ _ _ c.deref.ensures.value c.in_ok-write_row.ensures
+returns c = tell_tower c.write_row.result c.args.self.now _ _ _ c.deref.ensures.value c.write_row.ensures
