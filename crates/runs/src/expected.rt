@@ -1,11 +1,13 @@
 // What a text should answer, by a map that is kept as it is and halved anew for each answer.
-use crate::given::{Refused, Rows};
+use crate::given::Rows;
 use crate::halving::{Grid, level_of, side_of, tower_of};
-use crate::reading::{is_row, lines_of, numbers_of, words_of};
+use crate::reading::{is_row, number_of, numbers_of, words_of};
+use crate::refused::{Refused, Stopped};
 use crate::tally::Tally;
+use messages::command::Command;
 use std::alloc::{AllocError, Global};
 
-// A part of a map at a level.
+// A part of a map at a level: what a command for a window names, which has no type of its own there.
 #[derive(Clone, Copy)]
 struct Part {
     x: u64,
@@ -14,82 +16,43 @@ struct Part {
     high: u64,
 }
 
-#[derive(Clone, Copy)]
-enum Request {
-    Map(u64),
-    Level(u64),
-    Window(Part),
-    Set(u64, u64, u64),
-    Tower,
-    Coarse(u64),
-}
-
 // What words ask for, if they can be read.
-fn request_of(heap: Global, words: &[&[u8]]) -> Result<Option<Request>, AllocError> {
+fn command_of(alloc: Global, words: &[&[u8]]) -> Result<Option<Command>, AllocError> {
     let Some((name, rest)) = words.split_first() else {
         return Ok(None);
     };
-    let Some(numbers) = numbers_of(heap, rest)? else {
+    let Some(numbers) = numbers_of(alloc, rest, number_of)? else {
         return Ok(None);
     };
-    Ok(request_named(name, &numbers))
+    Ok(command_named(name, &numbers))
 }
 
-fn request_named(name: &[u8], numbers: &[u64]) -> Option<Request> {
-    match numbers {
-        [] if name == b"tower".as_slice() => Some(Request::Tower),
-        [n] => request_of_one(name, *n),
-        [x, y, height] if name == b"set".as_slice() => Some(Request::Set(*x, *y, *height)),
-        [x, y, wide, high] if name == b"window".as_slice() => Some(Request::Window(Part {
-            x: *x,
-            y: *y,
-            wide: *wide,
-            high: *high,
-        })),
+fn command_named(name: &[u8], numbers: &[u64]) -> Option<Command> {
+    match (name, numbers) {
+        (b"map", &[k]) => Some(Command::Map { k }),
+        (b"level", &[level]) => Some(Command::Level { level }),
+        (b"window", &[x, y, wide, high]) => Some(Command::Window { x, y, wide, high }),
+        (b"set", &[x, y, height]) => Some(Command::Set { x, y, height }),
+        (b"tower", []) => Some(Command::Tower),
+        (b"coarse", &[level]) => Some(Command::Coarse { level }),
         _ => None,
-    }
-}
-
-fn request_of_one(name: &[u8], number: u64) -> Option<Request> {
-    if name == b"map".as_slice() {
-        Some(Request::Map(number))
-    } else if name == b"level".as_slice() {
-        Some(Request::Level(number))
-    } else if name == b"coarse".as_slice() {
-        Some(Request::Coarse(number))
-    } else {
-        None
     }
 }
 
 // Numbers in one line, parted by one blank.
 fn write_line(out: &mut String, numbers: &[i64]) -> Result<(), AllocError> {
-    let mut gap = "";
-    for number in numbers {
-        write!(out, "{gap}{number}")?;
-        gap = " ";
+    if let Some((first, rest)) = numbers.split_first() {
+        write!(out, "{first}")?;
+        for number in rest {
+            write!(out, " {number}")?;
+        }
     }
-    write!(out, "\n")?;
-    Ok(())
+    write!(out, "\n")
 }
 
 // Whether so many places from one on are on a side, the first in any case.
 fn on_side(from: u64, many: u64, side: u64) -> bool {
     from < side && u128::from(from).saturating_add(u128::from(many)) <= u128::from(side)
-}
-
-// A part written, a line for each row.
-fn write_part(heap: Global, out: &mut String, grid: &Grid, part: Part) -> Result<(), AllocError> {
-    for v in 0..part.high {
-        let mut row = Vec::new(heap);
-        for u in 0..part.wide {
-            let x = part.x.saturating_add(u) as usize;
-            let y = part.y.saturating_add(v) as usize;
-            row.push(grid.at(x, y))?;
-        }
-        write_line(out, &row)?;
-    }
-    Ok(())
 }
 
 // The map that was taken last, and the level of its windows.
@@ -101,202 +64,160 @@ struct Shown {
 }
 
 impl Shown {
-    fn go_to(&mut self, level: u64) -> Option<Refused> {
+    fn go_to(&mut self, level: u64) -> Result<(), Refused> {
         if level > self.k {
-            return Some(Refused {
-                number: 4,
-                place: 0,
-            });
+            return Err(Refused::NoSuchLevel);
         }
         self.level = level;
-        None
+        Ok(())
     }
 
-    fn window(
-        &self,
-        heap: Global,
-        part: Part,
-        out: &mut String,
-    ) -> Result<Option<Refused>, AllocError> {
+    // A line for each row of the part.
+    fn window(&self, alloc: Global, part: Part, out: &mut String) -> Result<(), Stopped> {
         let side = side_of(self.k, self.level);
         if !on_side(part.x, part.wide, side) || !on_side(part.y, part.high, side) {
-            return Ok(Some(Refused {
-                number: 4,
-                place: 1,
-            }));
+            return Err(Refused::OffTheMap.into());
         }
-        let copy = level_of(heap, &self.map, self.level)?;
-        write_part(heap, out, &copy, part)?;
-        Ok(None)
+        let copy = level_of(alloc, &self.map, self.level)?;
+        for v in 0..part.high {
+            let y = part.y.saturating_add(v);
+            write_line(
+                out,
+                copy.row(part.x as usize, y as usize, part.wide as usize),
+            )?;
+        }
+        Ok(())
     }
 
-    fn set(&mut self, x: u64, y: u64, height: u64) -> Option<Refused> {
+    fn set(&mut self, x: u64, y: u64, height: u64) -> Result<(), Refused> {
         let side = side_of(self.k, 0);
         if x >= side || y >= side {
-            return Some(Refused {
-                number: 4,
-                place: 1,
-            });
+            return Err(Refused::OffTheMap);
         }
         if height > 65535 {
-            return Some(Refused {
-                number: 4,
-                place: 2,
-            });
+            return Err(Refused::TooHigh);
         }
         self.map.set(x as usize, y as usize, height as i64);
-        None
+        Ok(())
     }
 
     // The first numbers of the tower, as many as a level has places.
-    fn coarse(
-        &self,
-        heap: Global,
-        level: u64,
-        out: &mut String,
-    ) -> Result<Option<Refused>, AllocError> {
+    fn coarse(&self, alloc: Global, level: u64, out: &mut String) -> Result<(), Stopped> {
         if level > self.k {
-            return Ok(Some(Refused {
-                number: 4,
-                place: 0,
-            }));
+            return Err(Refused::NoSuchLevel.into());
         }
-        let tower = tower_of(heap, &self.map, self.k)?;
+        let tower = tower_of(alloc, &self.map, self.k)?;
         let side = side_of(self.k, level) as usize;
         let part = tower.as_slice().get(0..side.saturating_mul(side));
         write_line(out, part.unwrap_or(&[]))?;
-        Ok(None)
+        Ok(())
     }
 
-    fn obey(
-        &mut self,
-        heap: Global,
-        request: Request,
-        out: &mut String,
-    ) -> Result<Option<Refused>, AllocError> {
-        match request {
-            Request::Map(_) => Ok(None),
-            Request::Level(level) => Ok(self.go_to(level)),
-            Request::Window(part) => self.window(heap, part, out),
-            Request::Set(x, y, height) => Ok(self.set(x, y, height)),
-            Request::Tower => self.coarse(heap, 0, out),
-            Request::Coarse(level) => self.coarse(heap, level, out),
+    fn obey(&mut self, alloc: Global, command: Command, out: &mut String) -> Result<(), Stopped> {
+        match command {
+            Command::Map { .. } => {}
+            Command::Level { level } => self.go_to(level)?,
+            Command::Window { x, y, wide, high } => {
+                self.window(alloc, Part { x, y, wide, high }, out)?;
+            }
+            Command::Set { x, y, height } => self.set(x, y, height)?,
+            Command::Tower => self.coarse(alloc, 0, out)?,
+            Command::Coarse { level } => self.coarse(alloc, level, out)?,
         }
+        Ok(())
     }
 }
 
-// What a run has come to.
+// What a run has come to, and what was answered so far.
 #[derive(Drop)]
-struct Reference {
+struct Reference<'a> {
+    alloc: Global,
     shown: Option<Shown>,
     rows: Option<Rows>,
-    tally: Tally,
+    out: String,
+    tally: &'a mut Tally,
 }
 
-impl Reference {
-    fn refuse(&mut self, refused: Refused, out: &mut String) -> Result<(), AllocError> {
-        let number = refused.number;
-        let place = refused.place;
-        self.tally.refused(number);
-        write!(out, "refused {number} {place}\n")?;
+impl Reference<'_> {
+    // What is refused is written, and stops no more than its own step.
+    fn settle(&mut self, step: Result<(), Stopped>) -> Result<(), AllocError> {
+        match step {
+            Ok(()) => Ok(()),
+            Err(Stopped::NoMemory(error)) => Err(error),
+            Err(Stopped::Refused(refused)) => {
+                self.tally.refused(refused);
+                write!(self.out, "{refused}\n")
+            }
+        }
+    }
+
+    fn take_map(&mut self) -> Result<(), Stopped> {
+        let Some(rows) = self.rows.take() else {
+            return Ok(());
+        };
+        self.shown = Some(Shown {
+            k: rows.k,
+            level: 0,
+            map: rows.map(self.alloc)?,
+        });
+        self.tally.maps = self.tally.maps.saturating_add(1);
         Ok(())
     }
 
     // The rows have ended: their map is taken or refused.
-    fn end_rows(&mut self, heap: Global, out: &mut String) -> Result<(), AllocError> {
-        let Some(rows) = self.rows.take() else {
-            return Ok(());
+    fn end_rows(&mut self) -> Result<(), AllocError> {
+        let taken = self.take_map();
+        self.settle(taken)
+    }
+
+    // A command other than for a map; none could be read where there is none.
+    fn answer(&mut self, line: u64, command: Option<Command>) -> Result<(), Stopped> {
+        let (Some(command), Some(shown)) = (command, &mut self.shown) else {
+            return Err(Refused::Unreadable(line).into());
         };
-        if let Some(refused) = rows.refusal() {
-            return self.refuse(refused, out);
-        }
-        self.tally.maps = self.tally.maps.saturating_add(1);
-        self.shown = Some(Shown {
-            k: rows.k,
-            level: 0,
-            map: rows.map(heap)?,
-        });
+        shown.obey(self.alloc, command, &mut self.out)?;
+        self.tally.answered(command);
         Ok(())
     }
 
-    // A request other than for a map; none could be read where there is none.
-    fn answer(
-        &mut self,
-        heap: Global,
-        line: u64,
-        request: Option<Request>,
-        out: &mut String,
-    ) -> Result<(), AllocError> {
-        let unreadable = Refused {
-            number: 5,
-            place: line,
-        };
-        let (Some(request), Some(shown)) = (request, &mut self.shown) else {
-            return self.refuse(unreadable, out);
-        };
-        match shown.obey(heap, request, out)? {
-            Some(refused) => self.refuse(refused, out),
-            None => {
-                self.tally.answered(matches!(request, Request::Window(_)));
-                Ok(())
-            }
-        }
-    }
-
-    fn take_line(
-        &mut self,
-        heap: Global,
-        line: u64,
-        words: &[&[u8]],
-        out: &mut String,
-    ) -> Result<(), AllocError> {
+    fn take_line(&mut self, line: u64, words: &[&[u8]]) -> Result<(), AllocError> {
         if is_row(words) {
             if let Some(rows) = &mut self.rows {
-                return rows.add(heap, words, line);
+                return rows.add(self.alloc, words, line);
             }
         }
-        self.end_rows(heap, out)?;
+        self.end_rows()?;
         if words.is_empty() {
             return Ok(());
         }
-        match request_of(heap, words)? {
-            Some(Request::Map(k)) => {
-                self.rows = Some(Rows::new(heap, k));
+        match command_of(self.alloc, words)? {
+            Some(Command::Map { k }) => {
+                self.rows = Some(Rows::new(self.alloc, k));
                 Ok(())
             }
-            request => self.answer(heap, line, request, out),
+            command => {
+                let answered = self.answer(line, command);
+                self.settle(answered)
+            }
         }
     }
 }
 
-// Lines from the first on: how many there are.
-fn take_lines(
-    heap: Global,
-    reference: &mut Reference,
-    lines: &[&[u8]],
-    out: &mut String,
-) -> Result<u64, AllocError> {
-    let mut line: u64 = 0;
-    for bytes in lines {
-        let words = words_of(heap, bytes)?;
-        reference.take_line(heap, line, &words, out)?;
-        line = line.saturating_add(1);
-    }
-    reference.end_rows(heap, out)?;
-    Ok(line)
-}
-
 // The answers to a text; what was asked and answered is added to the tally.
-pub fn expected(heap: Global, text: &[u8], tally: &mut Tally) -> Result<String, AllocError> {
+pub fn expected(alloc: Global, text: &[u8], tally: &mut Tally) -> Result<String, AllocError> {
     let mut reference = Reference {
+        alloc,
         shown: None,
         rows: None,
-        tally: *tally,
+        out: String::new(alloc),
+        tally,
     };
-    let mut out = String::new(heap);
-    let lines = lines_of(heap, text)?;
-    let many = take_lines(heap, &mut reference, &lines, &mut out)?;
-    *tally = reference.tally;
-    tally.lines = tally.lines.saturating_add(many);
-    Ok(out)
+    // A line keeps its end, which is no word; behind the last end there is a line only if there is something.
+    for (line, bytes) in text.split_inclusive(|byte| *byte == b'\n').enumerate() {
+        let words = words_of(alloc, bytes)?;
+        reference.take_line(line as u64, &words)?;
+        reference.tally.lines = reference.tally.lines.saturating_add(1);
+    }
+    reference.end_rows()?;
+    Ok(reference.out)
 }

@@ -1,14 +1,8 @@
 // The rows of a map as they are given, and what is refused of them.
 use crate::halving::{Grid, side_of};
-use crate::reading::row_numbers_of;
+use crate::reading::{numbers_of, row_number_of};
+use crate::refused::{Refused, Stopped};
 use std::alloc::{AllocError, Global};
-
-// A refusal: its number and its place.
-#[derive(Clone, Copy)]
-pub struct Refused {
-    pub number: u64,
-    pub place: u64,
-}
 
 #[derive(Drop)]
 pub struct Rows {
@@ -18,65 +12,52 @@ pub struct Rows {
 }
 
 impl Rows {
-    pub fn new(heap: Global, k: u64) -> Rows {
+    pub fn new(alloc: Global, k: u64) -> Rows {
         Rows {
             k,
-            numbers: Vec::new(heap),
+            numbers: Vec::new(alloc),
             unreadable: None,
         }
     }
 
     // One row more, which stands in a line.
-    pub fn add(&mut self, heap: Global, words: &[&[u8]], line: u64) -> Result<(), AllocError> {
-        match row_numbers_of(heap, words)? {
+    pub fn add(&mut self, alloc: Global, words: &[&[u8]], line: u64) -> Result<(), AllocError> {
+        match numbers_of(alloc, words, row_number_of)? {
             Some(row) => self.numbers.push(row)?,
-            None => {
-                if self.unreadable.is_none() {
-                    self.unreadable = Some(line);
-                }
-            }
+            None => self.unreadable = self.unreadable.or(Some(line)),
         }
         Ok(())
     }
 
     // The first place that is missing, too many or no height.
-    fn wrong_place(&self) -> Option<u64> {
-        let side = side_of(self.k, 0);
-        let mut y: u64 = 0;
-        for row in self.numbers.iter() {
-            if y == side {
-                return Some(side.saturating_mul(side));
-            }
+    fn wrong_place(&self, side: usize) -> Option<usize> {
+        for (y, row) in self.numbers.iter().take(side).enumerate() {
             if let Some(x) = wrong_in_row(row, side) {
                 return Some(y.saturating_mul(side).saturating_add(x));
             }
-            y = y.saturating_add(1);
         }
-        if y < side {
-            Some(y.saturating_mul(side))
-        } else {
-            None
-        }
+        let rows = wrong_count(self.numbers.len(), side)?;
+        Some(rows.saturating_mul(side))
     }
 
-    pub fn refusal(&self) -> Option<Refused> {
+    fn check(&self, side: usize) -> Result<(), Refused> {
         if self.k > 7 {
-            return Some(Refused {
-                number: 1,
-                place: self.k,
-            });
+            return Err(Refused::TooManyLevels(self.k));
         }
-        if let Some(place) = self.unreadable {
-            return Some(Refused { number: 5, place });
+        if let Some(line) = self.unreadable {
+            return Err(Refused::Unreadable(line));
         }
-        let place = self.wrong_place()?;
-        Some(Refused { number: 2, place })
+        match self.wrong_place(side) {
+            Some(place) => Err(Refused::WrongNumber(place as u64)),
+            None => Ok(()),
+        }
     }
 
-    // The map of rows of which nothing is refused.
-    pub fn map(&self, heap: Global) -> Result<Grid, AllocError> {
+    // The map of the rows.
+    pub fn map(&self, alloc: Global) -> Result<Grid, Stopped> {
         let side = side_of(self.k, 0) as usize;
-        let mut cells = Vec::new(heap);
+        self.check(side)?;
+        let mut cells = Vec::new(alloc);
         for row in self.numbers.iter() {
             cells.extend_from_slice(row)?;
         }
@@ -89,17 +70,18 @@ impl Rows {
 }
 
 fn is_height(number: i64) -> bool {
-    0 <= number && number <= 65535
+    (0..=65535).contains(&number)
+}
+
+// Where a list that should have so many is too short or too long.
+fn wrong_count(many: usize, wanted: usize) -> Option<usize> {
+    (many != wanted).then_some(many.min(wanted))
 }
 
 // The first place of a row that is missing, too many or no height.
-fn wrong_in_row(row: &[i64], side: u64) -> Option<u64> {
-    let mut x: u64 = 0;
-    for number in row {
-        if x == side || !is_height(*number) {
-            return Some(x);
-        }
-        x = x.saturating_add(1);
-    }
-    if x < side { Some(x) } else { None }
+fn wrong_in_row(row: &[i64], side: usize) -> Option<usize> {
+    row.iter()
+        .take(side)
+        .position(|number| !is_height(*number))
+        .or_else(|| wrong_count(row.len(), side))
 }

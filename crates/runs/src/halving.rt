@@ -1,4 +1,5 @@
-// Maps halved by rows and then by columns, and their towers, made anew each time.
+// Maps halved by rows and then by columns, and their towers, made anew each time. `trials` halves place by place: two
+// references, written apart on purpose.
 use std::alloc::{AllocError, Global};
 
 // Numbers row by row.
@@ -10,22 +11,34 @@ pub struct Grid {
 }
 
 impl Grid {
-    fn empty(heap: Global, wide: usize, high: usize) -> Grid {
+    fn empty(alloc: Global, wide: usize, high: usize) -> Grid {
         Grid {
             wide,
             high,
-            cells: Vec::new(heap),
+            cells: Vec::new(alloc),
         }
     }
 
+    fn index(&self, x: usize, y: usize) -> usize {
+        y.saturating_mul(self.wide).saturating_add(x)
+    }
+
     // The number at a place, and 0 beyond.
-    pub fn at(&self, x: usize, y: usize) -> i64 {
-        let i = y.saturating_mul(self.wide).saturating_add(x);
-        self.cells.get(i).copied().unwrap_or(0)
+    fn at(&self, x: usize, y: usize) -> i64 {
+        self.cells.get(self.index(x, y)).copied().unwrap_or(0)
+    }
+
+    // So many numbers of a row, from a place on, and none beyond.
+    pub fn row(&self, x: usize, y: usize, wide: usize) -> &[i64] {
+        let from = self.index(x, y);
+        self.cells
+            .as_slice()
+            .get(from..from.saturating_add(wide))
+            .unwrap_or(&[])
     }
 
     pub fn set(&mut self, x: usize, y: usize, height: i64) {
-        let i = y.saturating_mul(self.wide).saturating_add(x);
+        let i = self.index(x, y);
         if i < self.cells.len() {
             self.cells[i] = height;
         }
@@ -40,11 +53,26 @@ struct Halved {
 }
 
 impl Halved {
-    fn empty(heap: Global, wide: usize, high: usize) -> Halved {
-        Halved {
-            means: Grid::empty(heap, wide, high),
-            differences: Vec::new(heap),
+    // So many pairs in a row, and so many rows; each pair is asked for by its place.
+    fn of<F: Fn(usize, usize) -> (i64, i64)>(
+        alloc: Global,
+        wide: usize,
+        high: usize,
+        pair: F,
+    ) -> Result<Halved, AllocError>
+        requires { F.IsAlwaysCallable pair }
+    {
+        let mut halved = Halved {
+            means: Grid::empty(alloc, wide, high),
+            differences: Vec::new(alloc),
+        };
+        for y in 0..high {
+            for x in 0..wide {
+                let (first, second) = pair(x, y);
+                halved.add(first, second)?;
+            }
         }
+        Ok(halved)
     }
 
     // One pair more: its mean, by a division that rounds down, and the first less the second.
@@ -57,67 +85,55 @@ impl Halved {
 }
 
 // The pairs beside each other.
-fn across(heap: Global, grid: &Grid) -> Result<Halved, AllocError> {
-    let mut halved = Halved::empty(heap, grid.wide / 2, grid.high);
-    for y in 0..grid.high {
-        for x in 0..grid.wide / 2 {
-            let left = x.saturating_mul(2);
-            halved.add(grid.at(left, y), grid.at(left.saturating_add(1), y))?;
-        }
-    }
-    Ok(halved)
+fn across(alloc: Global, grid: &Grid) -> Result<Halved, AllocError> {
+    Halved::of(alloc, grid.wide / 2, grid.high, |x, y| {
+        let left = x.saturating_mul(2);
+        (grid.at(left, y), grid.at(left.saturating_add(1), y))
+    })
 }
 
 // The pairs one below the other.
-fn down(heap: Global, grid: &Grid) -> Result<Halved, AllocError> {
-    let mut halved = Halved::empty(heap, grid.wide, grid.high / 2);
-    for y in 0..grid.high / 2 {
-        for x in 0..grid.wide {
-            let upper = y.saturating_mul(2);
-            halved.add(grid.at(x, upper), grid.at(x, upper.saturating_add(1)))?;
-        }
-    }
-    Ok(halved)
+fn down(alloc: Global, grid: &Grid) -> Result<Halved, AllocError> {
+    Halved::of(alloc, grid.wide, grid.high / 2, |x, y| {
+        let upper = y.saturating_mul(2);
+        (grid.at(x, upper), grid.at(x, upper.saturating_add(1)))
+    })
 }
 
 // The map at a level.
-pub fn level_of(heap: Global, map: &Grid, level: u64) -> Result<Grid, AllocError> {
+pub fn level_of(alloc: Global, map: &Grid, level: u64) -> Result<Grid, AllocError> {
     let mut copy = Grid {
         wide: map.wide,
         high: map.high,
-        cells: map.cells.as_slice().to_vec(heap)?,
+        cells: map.cells.clone()?,
     };
     for _ in 0..level {
-        let rows = across(heap, &copy)?;
-        copy = down(heap, &rows.means)?.means;
+        let rows = across(alloc, &copy)?;
+        copy = down(alloc, &rows.means)?.means;
     }
     Ok(copy)
 }
 
 // The differences that lead from the level above to this one: those down, and then those across.
-fn add_differences(heap: Global, finer: &Grid, tower: &mut Vec<i64>) -> Result<(), AllocError> {
-    let rows = across(heap, finer)?;
-    let columns = down(heap, &rows.means)?;
+fn add_differences(alloc: Global, finer: &Grid, tower: &mut Vec<i64>) -> Result<(), AllocError> {
+    let rows = across(alloc, finer)?;
+    let columns = down(alloc, &rows.means)?;
     tower.extend_from_slice(&columns.differences)?;
     tower.extend_from_slice(&rows.differences)?;
     Ok(())
 }
 
 // The tower of a map of k levels: the coarsest level, and then what leads to each finer one.
-pub fn tower_of(heap: Global, map: &Grid, k: u64) -> Result<Vec<i64>, AllocError> {
-    let mut tower = level_of(heap, map, k)?.cells;
-    for step in 1..k.saturating_add(1) {
-        let finer = level_of(heap, map, k.saturating_sub(step))?;
-        add_differences(heap, &finer, &mut tower)?;
+pub fn tower_of(alloc: Global, map: &Grid, k: u64) -> Result<Vec<i64>, AllocError> {
+    let mut tower = level_of(alloc, map, k)?.cells;
+    for level in (0..k).rev() {
+        let finer = level_of(alloc, map, level)?;
+        add_differences(alloc, &finer, &mut tower)?;
     }
     Ok(tower)
 }
 
 // The side of a map of k levels, at most 7, at a level.
 pub fn side_of(k: u64, level: u64) -> u64 {
-    let mut side: u64 = 1;
-    for _ in level..k.min(7) {
-        side = side.saturating_mul(2);
-    }
-    side
+    1 << k.min(7).saturating_sub(level)
 }

@@ -3,7 +3,6 @@
 // Of a command.
 #[derive(Clone, Copy)]
 pub enum Slip {
-    Nothing,
     OtherName,
     WordFewer,
     WordMore,
@@ -13,15 +12,16 @@ pub enum Slip {
 // Of a row.
 #[derive(Clone, Copy)]
 pub enum Flaw {
-    Nothing,
     Short,
     Long,
     NoHeight,
     BadWord,
 }
 
+pub static FLAWS: &[Flaw] = &[Flaw::Short, Flaw::Long, Flaw::NoHeight, Flaw::BadWord];
+
 // Of these the first three are numbers of a row alone, the fourth of a command alone, and the others none.
-pub static BAD_WORDS: [&[u8]; 20] = [
+pub static BAD_WORDS: &[&[u8]] = &[
     b"-0",
     b"-1",
     b"-007",
@@ -45,7 +45,7 @@ pub static BAD_WORDS: [&[u8]; 20] = [
 ];
 
 // Numbers of a row that are no heights.
-pub static NO_HEIGHTS: [&[u8]; 9] = [
+pub static NO_HEIGHTS: &[&[u8]] = &[
     b"65536",
     b"-1",
     b"-65535",
@@ -58,7 +58,7 @@ pub static NO_HEIGHTS: [&[u8]; 9] = [
 ];
 
 // Names that no command has.
-pub static BAD_NAMES: [&[u8]; 12] = [
+pub static BAD_NAMES: &[&[u8]] = &[
     b"MAP",
     b"Level",
     b"WINDOW",
@@ -74,7 +74,7 @@ pub static BAD_NAMES: [&[u8]; 12] = [
 ];
 
 // Lines that cannot be read, rows behind no map among them.
-pub static BAD_LINES: [&[u8]; 32] = [
+pub static BAD_LINES: &[&[u8]] = &[
     b"map",
     b"map x",
     b"map -1",
@@ -110,17 +110,17 @@ pub static BAD_LINES: [&[u8]; 32] = [
 ];
 
 // What parts words, and what ends or begins a line, beside the plain.
-pub static GAPS: [&[u8]; 4] = [b"\t", b"  ", b" \r", b"\t \t"];
+pub static GAPS: &[&[u8]] = &[b"\t", b"  ", b" \r", b"\t \t"];
 
-pub static ENDS: [&[u8]; 4] = [b"\r\n", b" \n", b"\t\n", b" \r\n"];
+pub static ENDS: &[&[u8]] = &[b"\r\n", b" \n", b"\t\n", b" \r\n"];
 
-pub static BEGINS: [&[u8]; 3] = [b" ", b"\t", b"\r "];
+pub static BEGINS: &[&[u8]] = &[b" ", b"\t", b"\r "];
 
 // Heights in other words than their digits.
-pub static ODD_HEIGHTS: [&[u8]; 6] = [b"-0", b"00", b"0", b"65535", b"0065535", b"-00"];
+pub static ODD_HEIGHTS: &[&[u8]] = &[b"-0", b"00", b"0", b"65535", b"0065535", b"-00"];
 
 // Numbers past every side and level.
-pub static LARGE: [u64; 7] = [
+pub static LARGE: &[u64] = &[
     18446744073709551615,
     18446744073709551614,
     18446744073709551612,
