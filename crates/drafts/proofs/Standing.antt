@@ -9,6 +9,8 @@ use Rattle.refusals.specs.declared.Refusal.{Refusal}
 use Rattle.refusals.specs.declared.Refusal.TheVariants.{TooManyLevels, WrongNumber, Unreadable}
 use Rattle.tower.specs.Checks.{places, first_wrong, wrong_at, build_refusal}
 use Rattle.tower.specs.Known.{SideOf}
+use Rattle.tower.specs.declared.Done.{Done}
+use Rattle.tower.specs.declared.Done.TheVariants.{Built}
 use Rattle.tower.specs.Calls.{Answered, BuiltTower}
 use Rattle.viewer.specs.declared.Viewer.{Viewer}
 use Rattle.viewer.specs.Shows.{Shows}
@@ -160,12 +162,12 @@ module _ {d : Draft} {g : Given} (o : Drafts d g) {side : ℕ} (w : Whole g (vec
       let m : n ≡ power g.k * power g.k = en ∙ rw w.side_of.value refl in
       rw (o.k, eh, m) (sym w.refusal)
 
-  pub finish_refused : (e : Refusal) → Answered (build_refusal d.k hs n) (Err e) was room (BuiltTower d.k hs room) → map_refusal g ≡ Some e
-  finish_refused e a = sym as_refused ∙ (refused_by _ e was room _ a).0
+  pub finish_refused : (e : Refusal) → Answered (build_refusal d.k hs n) (Err e) Built was room (BuiltTower d.k hs room) → map_refusal g ≡ Some e
+  finish_refused e a = sym as_refused ∙ (refused_by _ e Built was room _ a).0
 
-  pub finish_taken : (v : Viewer) → v.k ≡ d.k → v.level ≡ 0 → vec_items v.tower ≡ room → Answered (build_refusal d.k hs n) (Ok tt) was room (BuiltTower d.k hs room) → (map_refusal g ≡ None) × Shows v (map_given g)
+  pub finish_taken : (done : Done) (v : Viewer) → v.k ≡ d.k → v.level ≡ 0 → vec_items v.tower ≡ room → Answered (build_refusal d.k hs n) (Ok done) Built was room (BuiltTower d.k hs room) → (map_refusal g ≡ None) × Shows v (map_given g)
   unfolding map_given
-  finish_taken v ek el et a =
-      let t = taken_by _ was room _ a in
+  finish_taken done v ek el et a =
+      let t = taken_by _ done Built was room _ a in
       let built = rw (o.k, eh ∙ w.all) at t.1.holds in
       (sym as_refused ∙ t.0, record { k = ek ∙ o.k; level = el; holds = rw et built })

@@ -12,7 +12,6 @@ ghost use Rattle.drafts.specs.Given.{Given, map_given, map_refusal, no_rows, wit
 use maps::HeightMap;
 use refusals::Refusal;
 use std::alloc::{AllocError, Global};
-use tower::calls;
 use tower::checks::side_of;
 use viewer::Viewer;
 
@@ -138,7 +137,7 @@ impl Draft {
     {
         let side = self.check()?;
         let mut tower = vec![in alloc; 0; side * side]?;
-        calls::build(self.k, &self.heights, &mut tower)?;
+        tower::build(self.k, &self.heights, &mut tower)?;
         Ok(Viewer::new(self.k, tower))
     }
 }

@@ -5,7 +5,7 @@ use parts::{check_coarse, coarse};
 use refusals::Refusal;
 use std::alloc::{AllocError, Global};
 use std::io;
-use tower::calls::{build, change, window};
+use tower::{build, change, window};
 
 // A map whose rows are being read.
 #[derive(Drop)]

@@ -5,7 +5,7 @@ use parts::assembly::assemble;
 use parts::{coarse, detail, join};
 use refusals::Refusal;
 use std::alloc::{AllocError, Global};
-use tower::calls::{build, change, window};
+use tower::{build, change, window};
 
 // Which windows of a level are tried.
 #[derive(Clone, Copy)]

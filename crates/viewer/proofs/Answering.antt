@@ -11,6 +11,8 @@ use Rattle.levels.proofs.Sizes.{power_most}
 use Rattle.levels.proofs.Listing.{listed_tower_lem, part_cut}
 use Rattle.refusals.specs.declared.Refusal.{Refusal}
 use Rattle.refusals.specs.declared.Refusal.TheVariants.{NoSuchLevel}
+use Rattle.tower.specs.declared.Done.{Done}
+use Rattle.tower.specs.declared.Done.TheVariants.{Changed, Shown}
 use Rattle.tower.specs.Checks.{places, is_on_side, window_refusal, change_refusal}
 use Rattle.tower.specs.Calls.{Answered, ChangedTower, ShownWindow}
 use Rattle.tower.proofs.Order.{on_true, both_on, few_places, window_levels}
@@ -24,13 +26,13 @@ use Rattle.viewer.specs.Originals.{Original, seen, level_refusal, answer, next}
 use Rattle.viewer.specs.Shows.{Shows, Obeyed}
 
 -- what a call answers tells its refusal
-pub refused_by : (f : Option Refusal) (e : Refusal) (was after : List ℤ) (taken : Type 0) → Answered f (Err e) was after taken → (f ≡ Some e) × (after ≡ was)
-refused_by (Some d) e was after taken a = let r = a.0 in ((cc), a.1)
-refused_by None e was after taken a = let r = a.0 in absurd (cc)
+pub refused_by : {X : Type 0} (f : Option Refusal) (e : Refusal) (d : X) (was after : List ℤ) (taken : Type 0) → Answered f (Err e) d was after taken → (f ≡ Some e) × (after ≡ was)
+refused_by (Some g) e d was after taken a = let r = a.0 in ((cc), a.1)
+refused_by None e d was after taken a = let r = a.0 in absurd (cc)
 
-pub taken_by : (f : Option Refusal) (was after : List ℤ) (taken : Type 0) → Answered f (Ok tt) was after taken → (f ≡ None) × taken
-taken_by (Some d) was after taken a = let r = a.0 in absurd (cc)
-taken_by None was after taken a = (refl, a.1)
+pub taken_by : {X : Type 0} (f : Option Refusal) (x d : X) (was after : List ℤ) (taken : Type 0) → Answered f (Ok x) d was after taken → (f ≡ None) × taken
+taken_by (Some g) x d was after taken a = let r = a.0 in absurd (cc)
+taken_by None x d was after taken a = (refl, a.1)
 
 module _ {v : Viewer} {o : Original} (s : Shows v o) where
   -- the tower is as long as the original has places, so checks by the tower's length are checks by the original
@@ -52,17 +54,17 @@ module _ {v : Viewer} {o : Original} (s : Shows v o) where
 
   -- a call of `change` on the tower
   module _ (after : Viewer) (ek : after.k ≡ v.k) (el : after.level ≡ v.level) (ts us : List ℤ) (et : ts ≡ vec_items v.tower) (eu : vec_items after.tower ≡ us) (x y g : ℕ) where
-    height_refused : (e : Refusal) (said written : List ℕ) → Answered (change_refusal v.k (length ts) x y g) (Err e) ts us (ChangedTower v.k ts x y g us) → written ≡ said ++ refusal_text e → Obeyed o (asks.Set x y g) after said written
+    height_refused : (e : Refusal) (said written : List ℕ) → Answered (change_refusal v.k (length ts) x y g) (Err e) Changed ts us (ChangedTower v.k ts x y g us) → written ≡ said ++ refusal_text e → Obeyed o (asks.Set x y g) after said written
     unfolding answer next answer_text
     height_refused e said written a w =
-        let r = refused_by _ e ts us _ a in
+        let r = refused_by _ e Changed ts us _ a in
         let f : change_refusal o.k (places o.k) x y g ≡ Some e = sym (as_checked (λ k n. change_refusal k n x y g) _ (as_long ts et)) ∙ r.0 in
         record { shows = rw f (record { k = ek ∙ s.k; level = el ∙ s.level; holds = rw (eu ∙ r.1 ∙ et) s.holds }); says = rw f w }
 
-    pub height_set : (said : List ℕ) → Answered (change_refusal v.k (length ts) x y g) (Ok tt) ts us (ChangedTower v.k ts x y g us) → Obeyed o (asks.Set x y g) after said said
+    pub height_set : (done : Done) (said : List ℕ) → Answered (change_refusal v.k (length ts) x y g) (Ok done) Changed ts us (ChangedTower v.k ts x y g us) → Obeyed o (asks.Set x y g) after said said
     unfolding answer next answer_text
-    height_set said a =
-        let r = taken_by _ ts us _ a in
+    height_set done said a =
+        let r = taken_by _ done Changed ts us _ a in
         let f : change_refusal o.k (places o.k) x y g ≡ None = sym (as_checked (λ k n. change_refusal k n x y g) _ (as_long ts et)) ∙ r.0 in
         record { shows = rw f (record { k = ek ∙ s.k; level = el ∙ s.level; holds = rw eu ((rw s.k at r.1).holds o.heights (rw (sym et) at s.holds)) }); says = rw f (sym (append-nil said)) }
 
@@ -117,14 +119,14 @@ module _ {v : Viewer} {o : Original} (s : Shows v o) (ts : List ℤ) (et : ts �
   as_refused : window_refusal v.k (length ts) v.level x y w h m ≡ window_refusal o.k (places o.k) o.level x y w h (w * h)
   as_refused = as_checked s (λ k n. window_refusal k n v.level x y w h m) _ (as_long s ts et) ∙ ap (λ (l : ℕ). window_refusal o.k (places o.k) l x y w h m) s.level ∙ room_same o.k (places o.k) o.level x y w h m em
 
-  window_refused : (e : Refusal) → Answered (window_refusal v.k (length ts) v.level x y w h m) (Err e) was room (ShownWindow v.k ts v.level x y w h room) → written ≡ said ++ refusal_text e → written ≡ said ++ answer_text (answer o (asks.Window x y w h))
+  window_refused : (e : Refusal) → Answered (window_refusal v.k (length ts) v.level x y w h m) (Err e) Shown was room (ShownWindow v.k ts v.level x y w h room) → written ≡ said ++ refusal_text e → written ≡ said ++ answer_text (answer o (asks.Window x y w h))
   unfolding answer answer_text
-  window_refused e a f = rw (sym as_refused ∙ (refused_by _ e was room _ a).0) f
+  window_refused e a f = rw (sym as_refused ∙ (refused_by _ e Shown was room _ a).0) f
 
-  window_told : Answered (window_refusal v.k (length ts) v.level x y w h m) (Ok tt) was room (ShownWindow v.k ts v.level x y w h room) → written ≡ said ++ flat_map row_text (rows_of w h room) → written ≡ said ++ answer_text (answer o (asks.Window x y w h))
+  window_told : (done : Done) → Answered (window_refusal v.k (length ts) v.level x y w h m) (Ok done) Shown was room (ShownWindow v.k ts v.level x y w h room) → written ≡ said ++ flat_map row_text (rows_of w h room) → written ≡ said ++ answer_text (answer o (asks.Window x y w h))
   unfolding answer answer_text seen
-  window_told a f =
-      let r = taken_by _ was room _ a in
+  window_told done a f =
+      let r = taken_by _ done Shown was room _ a in
       let shown : ShownWindow o.k ts o.level x y w h room = rw (s.k, s.level) at r.1 in
       rw (sym as_refused ∙ r.0, ← window_rows x y w h room _ shown.length_is (shown.shows o.heights (rw et s.holds))) f
 
@@ -134,7 +136,7 @@ module _ {X Y : Type 0} (r : Result X Y) (v : Viewer) where
   refuse_level l said written lt = on_ok_weaker r (λ w o s. level_refused s l said written lt w)
 
   module _ (after : Viewer) (ek : after.k ≡ v.k) (el : after.level ≡ v.level) (ts us : List ℤ) (et : ts ≡ vec_items v.tower) (eu : vec_items after.tower ≡ us) (x y g : ℕ) where
-    pub refuse_height : (e : Refusal) (said written : List ℕ) → Answered (change_refusal v.k (length ts) x y g) (Err e) ts us (ChangedTower v.k ts x y g us) → OnOk r (written ≡ said ++ refusal_text e) → OnOk r ((o : Original) → Shows v o → Obeyed o (asks.Set x y g) after said written)
+    pub refuse_height : (e : Refusal) (said written : List ℕ) → Answered (change_refusal v.k (length ts) x y g) (Err e) Changed ts us (ChangedTower v.k ts x y g us) → OnOk r (written ≡ said ++ refusal_text e) → OnOk r ((o : Original) → Shows v o → Obeyed o (asks.Set x y g) after said written)
     refuse_height e said written a = on_ok_weaker r (λ w o s. height_refused s after ek el ts us et eu x y g e said written a w)
 
   pub tell_tower : (ts : List ℤ) (said written : List ℕ) → ts ≡ vec_items v.tower → OnOk r (written ≡ said ++ row_text ts) → OnOk r ((o : Original) → Shows v o → written ≡ said ++ answer_text (answer o asks.Tower))
@@ -149,11 +151,11 @@ module _ {X Y : Type 0} (r : Result X Y) (v : Viewer) where
     tell_coarse m ts part et f can handed = on_ok_weaker r (λ w o s. coarse_told s l n en said written m ts part et f can handed w)
 
   module _ (ts : List ℤ) (et : ts ≡ vec_items v.tower) (x y w h m : ℕ) (em : m ≡ min (min (w * h) (2 ^ 64 - 1)) 16384) (was room : List ℤ) (said written : List ℕ) where
-    pub refuse_window : (e : Refusal) → Answered (window_refusal v.k (length ts) v.level x y w h m) (Err e) was room (ShownWindow v.k ts v.level x y w h room) → OnOk r (written ≡ said ++ refusal_text e) → OnOk r ((o : Original) → Shows v o → written ≡ said ++ answer_text (answer o (asks.Window x y w h)))
+    pub refuse_window : (e : Refusal) → Answered (window_refusal v.k (length ts) v.level x y w h m) (Err e) Shown was room (ShownWindow v.k ts v.level x y w h room) → OnOk r (written ≡ said ++ refusal_text e) → OnOk r ((o : Original) → Shows v o → written ≡ said ++ answer_text (answer o (asks.Window x y w h)))
     refuse_window e a = on_ok_weaker r (λ f o s. window_refused s ts et x y w h m em was room said written e a f)
 
-    pub tell_window : Answered (window_refusal v.k (length ts) v.level x y w h m) (Ok tt) was room (ShownWindow v.k ts v.level x y w h room) → OnOk r (written ≡ said ++ flat_map row_text (rows_of w h room)) → OnOk r ((o : Original) → Shows v o → written ≡ said ++ answer_text (answer o (asks.Window x y w h)))
-    tell_window a = on_ok_weaker r (λ f o s. window_told s ts et x y w h m em was room said written a f)
+    pub tell_window : (done : Done) → Answered (window_refusal v.k (length ts) v.level x y w h m) (Ok done) Shown was room (ShownWindow v.k ts v.level x y w h room) → OnOk r (written ≡ said ++ flat_map row_text (rows_of w h room)) → OnOk r ((o : Original) → Shows v o → written ≡ said ++ answer_text (answer o (asks.Window x y w h)))
+    tell_window done a = on_ok_weaker r (λ f o s. window_told s ts et x y w h m em was room said written done a f)
 
   -- a command that leaves the viewer as it is
   pub only_told : (c : Command) (said written : List ℕ) → ((o : Original) → next o c ≡ o) → OnOk r ((o : Original) → Shows v o → written ≡ said ++ answer_text (answer o c)) → OnOk r ((o : Original) → Shows v o → Obeyed o c v said written)

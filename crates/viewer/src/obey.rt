@@ -11,7 +11,6 @@ use messages::write::{write_refusal, write_row, write_rows};
 use parts::{check_coarse, coarse};
 use refusals::Refusal;
 use std::alloc::{AllocError, Global};
-use tower::calls;
 
 impl Viewer {
     // A viewer of the whole map.
@@ -48,8 +47,8 @@ impl Viewer {
     {
         let places = wide.saturating_mul(high).min(16384) as usize;
         let mut room = vec![in alloc; 0; places]?;
-        match calls::window(self.k, &self.tower, self.level, x, y, wide, high, &mut room) {
-            Ok(()) => write_rows(out, &room, wide as usize, high as usize),
+        match tower::window(self.k, &self.tower, self.level, x, y, wide, high, &mut room) {
+            Ok(_) => write_rows(out, &room, wide as usize, high as usize),
             Err(refusal) => write_refusal(out, refusal),
         }
     }
@@ -64,8 +63,8 @@ impl Viewer {
     ) -> Result<(), AllocError>
         ensures { OnOk result (Obeys self.old (Set x y height) self.new out.old out.new) }
     {
-        match calls::change(self.k, &mut self.tower, x, y, height) {
-            Ok(()) => Ok(()),
+        match tower::change(self.k, &mut self.tower, x, y, height) {
+            Ok(_) => Ok(()),
             Err(refusal) => write_refusal(out, refusal),
         }
     }

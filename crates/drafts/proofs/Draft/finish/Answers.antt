@@ -21,4 +21,4 @@ returns-in_err-build c =
 
 pub returns : goal.returns
 returns c = λ g o.
-    finish_taken o (c.in_ok-side.ensures.tells g o) _ _ _ c.deref.ensures.value _ (c.deref_mut.ensures.len ∙ c.in_ok-tower.ensures.len) _ c.new.ensures.0 c.new.ensures.1.0 (ap vec_items c.new.ensures.1.1 ∙ with_items_is c.in_ok-tower.tower _ (c.build.auto.room ∙ c.deref_mut.ensures.len)) c.in_ok-build.ensures
+    finish_taken o (c.in_ok-side.ensures.tells g o) _ _ _ c.deref.ensures.value _ (c.deref_mut.ensures.len ∙ c.in_ok-tower.ensures.len) _ _ c.new.ensures.0 c.new.ensures.1.0 (ap vec_items c.new.ensures.1.1 ∙ with_items_is c.in_ok-tower.tower _ (c.build.auto.room ∙ c.deref_mut.ensures.len)) c.in_ok-build.ensures

@@ -4,7 +4,7 @@ use Rattle.viewer.proofs.Answering.{refuse_height, height_set}
 use Rattle.viewer.proofs.Viewer.set_height.Goals as goal
 
 pub returns-in-Ok : goal.returns-in-Ok
-returns-in-Ok c = λ o s. height_set s _ refl refl _ _ c.deref_mut.ensures.value (with_items_is c.args.self.now.tower _ (c.change.auto.tower ∙ c.deref_mut.ensures.len)) _ _ _ _ c.in-Ok.ensures
+returns-in-Ok c = λ o s. height_set s _ refl refl _ _ c.deref_mut.ensures.value (with_items_is c.args.self.now.tower _ (c.change.auto.tower ∙ c.deref_mut.ensures.len)) _ _ _ _ _ c.in-Ok.ensures
 
 pub returns-in-Err : goal.returns-in-Err
 returns-in-Err c =

@@ -7,7 +7,7 @@ pub returns-in-Ok : goal.returns-in-Ok
 returns-in-Ok c =
     let few : length c.deref_mut.result.now ≡ min (min (c.args.wide * c.args.high) (2 ^ 64 - 1)) 16384 = omega (arith, c.in_ok-room.ensures.len, c.min-places.ensures, c.saturating_mul.ensures, c.deref_mut.ensures.len) in
     let kept : length c.window.new.room ≡ c.in_ok-room.room.len = c.window.auto.room ∙ c.deref_mut.ensures.len in
-    tell_window c.write_rows.result c.args.self.now _ c.deref.ensures.value _ _ _ _ _ few _ _ _ _ c.in-Ok.ensures (rw (c.deref-in-Ok.ensures.value ∙ with_items_is c.in_ok-room.room _ kept) at c.write_rows.ensures)
+    tell_window c.write_rows.result c.args.self.now _ c.deref.ensures.value _ _ _ _ _ few _ _ _ _ _ c.in-Ok.ensures (rw (c.deref-in-Ok.ensures.value ∙ with_items_is c.in_ok-room.room _ kept) at c.write_rows.ensures)
 
 pub returns : goal.returns
 returns c =
