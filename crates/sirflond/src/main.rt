@@ -12,11 +12,10 @@ use messages::command::Command;
 use refusals::Refusal;
 use std::io::{BufRead, BufReader};
 
-// How many lines were taken, the map that is shown, and the map whose rows are being read.
+// The map that is shown, and the map whose rows are being read.
 #[derive(Drop)]
 struct Program<'a> {
     rt: &'a HostRuntime,
-    line: u64,
     shown: Option<Shown>,
     rows: Option<Rows>,
 }
@@ -61,9 +60,7 @@ impl Program<'_> {
     }
 
     // One line: a row of a map, or a command, which ends the rows before it.
-    fn take_line(&mut self, line: &str) -> anyhow::Result<()> {
-        let at = self.line;
-        self.line = at.saturating_add(1);
+    fn take_line(&mut self, line: &str, at: u64) -> anyhow::Result<()> {
         if is_row(line) {
             if let Some(rows) = &mut self.rows {
                 let added = rows.add(line, at);
@@ -79,12 +76,12 @@ impl Program<'_> {
 fn main(rt: HostRuntime) -> anyhow::Result<()> {
     let mut program = Program {
         rt: &rt,
-        line: 0,
         shown: None,
         rows: None,
     };
-    for line in BufReader::new(rt.alloc(), rt.stdin())?.lines(rt.alloc()) {
-        program.take_line(line?.as_str())?;
+    let lines = BufReader::new(rt.alloc(), rt.stdin())?.lines(rt.alloc());
+    for (at, line) in lines.enumerate() {
+        program.take_line(line?.as_str(), at as u64)?;
     }
     program.end_rows()
 }

@@ -58,7 +58,7 @@ fn differ(a: &[i32], b: &[i32]) -> usize {
     others.saturating_add(a.len().abs_diff(b.len()))
 }
 
-// A map of k levels, and what should be its tower.
+// A map of k levels, and what should be its tower. The random numbers are no part of it: one sequence runs through all cases.
 #[derive(Drop)]
 pub struct Case {
     pub alloc: Global,

@@ -32,14 +32,29 @@ fn mean(a: i32, b: i32) -> i32 {
     a.wrapping_add(b).div_euclid(2)
 }
 
+// Heights row by row, each asked for by its place.
+fn row_by_row<F: FnMut(u64, u64) -> i32>(
+    alloc: Global,
+    wide: u64,
+    high: u64,
+    mut height_at: F,
+) -> Result<Vec<i32>, AllocError>
+    requires { F.IsAlwaysCallable height_at }
+{
+    let mut heights = Vec::new(alloc);
+    for y in 0..high {
+        for x in 0..wide {
+            heights.push(height_at(x, y))?;
+        }
+    }
+    Ok(heights)
+}
+
 impl Map {
     // A map of k levels, at most 7.
     pub fn random(alloc: Global, random: &mut Random, k: u64) -> Result<Map, AllocError> {
         let side = 1u64 << k.min(7);
-        let mut heights = Vec::new(alloc);
-        for _ in 0..side.wrapping_mul(side) {
-            heights.push(i32::from(height(random)))?;
-        }
+        let heights = row_by_row(alloc, side, side, |_, _| i32::from(height(random)))?;
         Ok(Map { side, heights })
     }
 
@@ -59,17 +74,12 @@ impl Map {
         }
     }
 
-    // The heights of a window, row by row.
+    // The heights of a window.
     pub fn window(&self, alloc: Global, window: Window) -> Result<Vec<i32>, AllocError> {
-        let mut heights = Vec::new(alloc);
-        for v in 0..window.high {
-            for u in 0..window.wide {
-                let x = window.x.wrapping_add(u);
-                let y = window.y.wrapping_add(v);
-                heights.push(self.at(x, y))?;
-            }
-        }
-        Ok(heights)
+        let Window { x, y, wide, high } = window;
+        row_by_row(alloc, wide, high, |u, v| {
+            self.at(x.wrapping_add(u), y.wrapping_add(v))
+        })
     }
 
     // One place of the halved map. The reference in `runs` halves by rows and then by columns: two ways, written apart on purpose.
@@ -85,12 +95,7 @@ impl Map {
 
     fn halved(&self, alloc: Global) -> Result<Map, AllocError> {
         let side = self.side / 2;
-        let mut heights = Vec::new(alloc);
-        for y in 0..side {
-            for x in 0..side {
-                heights.push(self.halved_place(x, y))?;
-            }
-        }
+        let heights = row_by_row(alloc, side, side, |x, y| self.halved_place(x, y))?;
         Ok(Map { side, heights })
     }
 
