@@ -26,7 +26,7 @@ impl Program<'_> {
         match done {
             Ok(()) => {}
             Err(Stop::Refused(refusal)) => {
-                println!(self.rt; "refused {} {}", refusal.number(), refusal.place())?;
+                println!(self.rt; "{refusal}")?;
             }
             Err(Stop::Failed(error)) => return Err(error),
         }

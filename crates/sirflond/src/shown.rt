@@ -86,7 +86,9 @@ impl Shown {
             Command::Map { .. } => {}
             Command::Level { level } => self.go_to(level)?,
             Command::Window { x, y, wide, high } => self.window(rt, x, y, wide, high)?,
-            Command::Set { x, y, height } => change(self.k, &mut self.tower, x, y, height)?,
+            Command::Set { x, y, height } => {
+                change(self.k, &mut self.tower, x, y, height)?;
+            }
             Command::Tower => print_numbers(rt, &self.tower)?,
             Command::Coarse { level } => self.coarse(rt, level)?,
         }

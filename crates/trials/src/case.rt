@@ -5,7 +5,7 @@ use parts::assembly::assemble;
 use parts::{coarse, detail, join};
 use refusals::Refusal;
 use std::alloc::{AllocError, Global};
-use tower::{build, change, window};
+use tower::{Done, build, change, window};
 
 // Which windows of a level are tried.
 #[derive(Clone, Copy)]
@@ -80,7 +80,7 @@ impl Case {
         })
     }
 
-    pub fn build(&mut self) -> Result<(), Refusal> {
+    pub fn build(&mut self) -> Result<Done, Refusal> {
         build(self.k, &self.map.heights, &mut self.tower)
     }
 
