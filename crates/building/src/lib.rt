@@ -31,7 +31,7 @@ fn row_to(high: usize, y: usize) -> usize
     }
 }
 
-// Each row of a map halved.
+// Each row of a map halved. By number, since a row's means and its differences go to places that its number tells.
 fn halve_rows(map: &[i32], room: &mut [i32], size: Size)
     requires lengths { Covers size map.now × Covers size room.old }
     requires heights { (i : ℕ) → i < size.wide * size.high → Height (line map.now i) }

@@ -41,7 +41,8 @@ fn carry_line(tower: &mut [i32], places: usize, x: usize, index: usize, by: i32)
 }
 
 // A change of one height: the differences of its pairs across and down follow. Answers the change one level up, and whoever
-// carries that on has carried this one.
+// carries that on has carried this one. The numbers are lent beside the place, since a struct that holds them would be taken apart
+// and made again at each level.
 fn carry_level(tower: &mut [i32], place: Place, by: i32) -> i32
     requires more { 2 < place.size.wide + place.size.high }
     requires room { Covers place.size tower.old }

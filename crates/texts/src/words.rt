@@ -7,7 +7,7 @@ ghost use Rattle.texts.specs.Words.{height_number, is_blank, is_end, lines, numb
 
 use std::marker::Model;
 
-// Where the first line ends, if a line end is there.
+// Where the first line ends, if a line end is there. Each search stands by itself, since its caller knows it by its clause.
 fn find_end(text: &[u8]) -> Option<usize>
     ensures { result ≡ position is_end text.now }
 {
