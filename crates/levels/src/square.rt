@@ -1,4 +1,5 @@
-// The same laws for maps of 2^k by 2^k places, in words without sizes.
+// The same laws for maps of 2^k by 2^k places, in words without sizes: they stand beside those of any size, so that a reader may
+// believe these shorter words alone.
 ghost use Rattle.levels.specs.SquareLaws.{Between, BothTheSame, ChangesFew, PartIsTower, ShowsAll, ShowsHeld, WindowOnly};
 
 // Sizes, levels, towers, numbering and what is shown are those of any size.

@@ -83,7 +83,8 @@ fn check_join(k: u64, coarse: usize, detail: usize, room: usize) -> Result<usize
     }
 }
 
-// The tower of k levels from its coarse part, of one level less, and the detail that leads on from there.
+// The tower of k levels from its coarse part, of one level less, and the detail that leads on from there. Two parts are named
+// here and not listed, so that each is told apart where it is wrong.
 pub fn join(k: u64, coarse: &[i32], detail: &[i32], room: &mut [i32]) -> Result<(), Refusal>
     ensures { Answered (join_refusal k (length coarse.now) (length detail.now) (length room.old)) result tt room.old room.new (Joined k coarse.now detail.now room.new) }
 {

@@ -16,7 +16,7 @@ struct Part {
     high: u64,
 }
 
-// What words ask for, if they can be read.
+// What words ask for, if they can be read; that they cannot is no error of the call.
 fn command_of(alloc: Global, words: &[&[u8]]) -> Result<Option<Command>, AllocError> {
     let Some((name, rest)) = words.split_first() else {
         return Ok(None);

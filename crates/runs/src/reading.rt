@@ -42,7 +42,7 @@ pub fn is_row(words: &[&[u8]]) -> bool {
     matches!(words, [[b'0'..=b'9' | b'-', ..], ..])
 }
 
-// All words as numbers, or none where one of them is none.
+// All words as numbers, or none where one of them is none, which is no error of the call.
 pub fn numbers_of<T: Drop, F: Fn(&[u8]) -> Option<T>>(
     alloc: Global,
     words: &[&[u8]],

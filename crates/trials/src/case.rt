@@ -84,7 +84,7 @@ impl Case {
         build(self.k, &self.map.heights, &mut self.tower)
     }
 
-    // Whether the tower is what the map's tower is, built anew.
+    // Whether the tower is what the map's tower is, built anew. What does not agree is counted and is no error, here and below.
     fn is_right(&self) -> Result<bool, AllocError> {
         let mut anew = vec![in self.alloc; 0; self.map.heights.len()]?;
         let built = build(self.k, &self.map.heights, &mut anew);

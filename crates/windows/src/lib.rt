@@ -98,7 +98,8 @@ impl<'a> Area<'a> {
         );
     }
 
-    // A row made where it belongs, from the row above it, which stands at `from`.
+    // A row made where it belongs, from the row above it, which stands at `from`: both in one room, where the second is made over
+    // the first.
     fn finer_row(&self, v: usize, from: usize, room: &mut [i32], aside: &mut [i32; 64])
         requires row { (v < self.now.high) × (0 < self.now.wide) }
         requires enough { (from + wide_above self.now ≤ length room.old) × (self.now.wide * self.now.high ≤ length room.old) }
