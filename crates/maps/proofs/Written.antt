@@ -1,24 +1,10 @@
 -- A row halved, one pair after the other. Assumes nothing.
 use Rattle.std.proofs.Common.{◌≡◌, ℕ, ◌+◌, ◌<◌, ◌≢◌, List, length, set, ℤ, pos, ◌∙◌, arith, below_more}
-use Rattle.std.proofs.lemmas.List.{get_or-set_same, get_or-set_other, length-set}
+use Rattle.std.proofs.lemmas.List.{get_or-set_same, get_or-set_other}
 use Rattle.levels.specs.Maps.{line_up, apart}
 use Rattle.maps.specs.Rows.{line, RowHalvedTo}
 
--- two numbers written
-module _ (xs : List ℤ) (i j : ℕ) (a b : ℤ) where
-  pub first_put : i ≢ j → i < length xs → line (set (set xs i a) j b) i ≡ a
-  first_put n h = get_or-set_other (set xs i a) j i b (pos 0) n ∙ get_or-set_same xs i a (pos 0) h
-
-  pub second_put : j < length xs → line (set (set xs i a) j b) j ≡ b
-  second_put h = get_or-set_same (set xs i a) j b (pos 0) (rw length-set h)
-
-  pub neither_put : (k : ℕ) → k ≢ i → k ≢ j → line (set (set xs i a) j b) k ≡ line xs k
-  neither_put k n m = get_or-set_other (set xs i a) j k b (pos 0) m ∙ get_or-set_other xs i k a (pos 0) n
-
 module _ (row ms ds : List ℤ) where
-  pub row_none : RowHalvedTo 0 0 row ms ds
-  row_none = record { means = λ k h. absurd (omega arith); across = λ k h. absurd (omega arith) }
-
   module _ (x : ℕ) (a : ℤ) (room : x < length ms) (ea : a ≡ line_up (length row) (line row) x) (o : RowHalvedTo x x row ms ds) where
     one_more : (k : ℕ) → k < x + 1 → line (set ms x a) k ≡ line_up (length row) (line row) k
     one_more = below_more _ _ (λ k hk. let n : k ≢ x = omega arith in get_or-set_other ms x k a (pos 0) n ∙ o.means k hk) (get_or-set_same ms x a (pos 0) room ∙ ea)

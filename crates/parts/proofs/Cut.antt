@@ -1,5 +1,5 @@
 -- The coarse part is the tower of the smaller map, and parts fit together. Assumes nothing.
-use Rattle.std.proofs.Common.{◌≡◌, ℕ, ◌+◌, ◌-◌, ◌*◌, ◌≤◌, List, [], ◌++◌, length, take, drop, ℤ, pos, Some, None, Option, refl, arith}
+use Rattle.std.proofs.Common.{◌≡◌, ℕ, ◌+◌, ◌-◌, ◌*◌, ◌≤◌, List, ◌++◌, length, take, drop, ℤ, pos, None, Option, refl, arith}
 use Rattle.std.proofs.lemmas.List.{get_or-take, take_at, drop-drop, drop_all, append-nil, length-append, length-drop}
 use Rattle.levels.specs.Maps.{Map, power, level}
 use Rattle.levels.specs.Numbering.{Holds}
@@ -37,6 +37,3 @@ filled n m xs ys room e er em =
 
 pub part_handed : (f : Option Refusal) (part : List ℤ) (there : Type 0) → f ≡ None → there → Handed f part there
 part_handed f part there e t = rw e t
-
-pub part_refused : (f : Option Refusal) (r : Refusal) (part : List ℤ) (there : Type 0) → f ≡ Some r → part ≡ [] → Handed f part there
-part_refused f r part there e q = rw e q

@@ -12,13 +12,6 @@ abbrev pub ReadSoFar : {X : Type 0} → (List ℕ → Option X) → (all ws : Li
 ReadSoFar reads all ws xs = all_read reads all ≡ option_map (λ ys. xs ++ ys) (all_read reads ws)
 
 module _ {X : Type 0} (reads : List ℕ → Option X) where
-  none_yet : (o : Option (List X)) → o ≡ option_map (λ ys. [] ++ ys) o
-  none_yet None = refl
-  none_yet (Some ys) = refl
-
-  pub so_far_none : (all : List (List ℕ)) → ReadSoFar reads all all []
-  so_far_none all = none_yet (all_read reads all)
-
   pub so_far_all : (all ws : List (List ℕ)) (xs : List X) → ReadSoFar reads all ws xs → ws ≡ [] → all_read reads all ≡ Some xs
   unfolding all_read
   so_far_all all ws xs h e = h ∙ ap (λ vs. option_map (λ ys. xs ++ ys) (all_read reads vs)) e ∙ ap Some (append-nil xs)

@@ -1,11 +1,8 @@
 -- Where the rows of a window stand, and those of the coarser window that it is made from. Assumes nothing.
-use Rattle.std.proofs.Common.{◌≡◌, ℕ, ◌+◌, ◌*◌, ◌/◌, ◌%◌, ◌<◌, ◌≤◌, List, length, set, ℤ, pos, sym, ◌∙◌, ⊎_elim, mul-le-mul_right, mul-le-mul, arith}
+use Rattle.std.proofs.Common.{◌≡◌, ℕ, ◌+◌, ◌*◌, ◌/◌, ◌%◌, ◌<◌, ◌≤◌, List, ℤ, pos, sym, ◌∙◌, ⊎_elim, mul-le-mul_right, mul-le-mul, arith}
 use Rattle.std.specs.List.{between}
 use Rattle.std.proofs.lemmas.List.Edits.{get_or-between}
-use Rattle.std.proofs.lemmas.List.{get_or-set_same}
 use Rattle.std.proofs.lemmas.Bool.{cases_eq}
-use Rattle.pairs.specs.Pairs.{Height}
-use Rattle.pairs.proofs.Exact.{bits, read_height}
 use Rattle.levels.specs.Maps.{Map}
 use Rattle.maps.specs.Rows.{line}
 use Rattle.windows.specs.Windows.{Row, Window}
@@ -20,13 +17,6 @@ from_within w x y v hw =
     let a : (y % 2 + v) / 2 + 1 ≤ v + 1 = omega arith in
     let b : (x % 2 + w + 1) / 2 ≤ w = omega arith in
     omega (arith, mul-le-mul a b)
-
--- the coarser window is no larger
-pub coarser_within : (w h x y : ℕ) → 0 < w → 0 < h → (x % 2 + w + 1) / 2 * ((y % 2 + h + 1) / 2) ≤ w * h
-coarser_within w h x y hw hh =
-    let a : (x % 2 + w + 1) / 2 ≤ w = omega arith in
-    let b : (y % 2 + h + 1) / 2 ≤ h = omega arith in
-    mul-le-mul a b
 
 -- the rows from v on stand where they belong
 abbrev pub RowsFrom : (v w h : ℕ) → List ℤ → Map → (x y : ℕ) → Type 0
@@ -52,13 +42,3 @@ row_more w h x y v p q start before after hw hv coarse done kept right rest u k 
     sym (get_or-between after (v * w) (v * w + w) u (pos 0) (omega arith)) ∙ made))
     (λ n. let lt : v + 1 ≤ k = omega arith in rest (k * w + u) (λ _ l. omega (arith, mul-le-mul_right w lt)) ∙ done u k hu lt hk)
     (cases_eq k v)
-
--- a window of one place
-pub one_window : (w h x y : ℕ) (g : ℤ) (room : List ℤ) (p : Map) → w + h ≡ 2 → 0 < w → 0 < h → w * h ≤ length room → g ≡ p x y → Height (p x y) → Window w h (set room 0 (bits g)) p x y
-one_window w h x y g room p one hw hh long e hp u v hu hv =
-    let eu : u ≡ 0 = omega arith in
-    let ev : v ≡ 0 = omega arith in
-    let ex : x + 0 ≡ x = omega arith in
-    let ey : y + 0 ≡ y = omega arith in
-    let at : 0 * w + 0 ≡ 0 = omega arith in
-    rw (eu, ev, ex, ey, at) (get_or-set_same room 0 (bits g) (pos 0) (omega (arith, mul-le-mul hw hh)) ∙ read_height g (p x y) e hp)

@@ -1,14 +1,9 @@
 use Rattle.std.proofs.Common.{◌+◌, ◌/◌, ◌<◌, ◌≤◌, length, get_or, pos, sym, mul-le-mul, arith, w32, SFits, rules}
 use borrow.Author.Differences.{ints}
 use Rattle.std.proofs.lemmas.Int.{to_z-of_z}
-use Rattle.std.proofs.lemmas.Bool.{eqb-true, eqb-false}
+use Rattle.std.proofs.lemmas.Bool.{eqb-true}
 use Rattle.changes.proofs.Carrying.{carried_by, none_carried, sum_bits, top_carried}
 use Rattle.changes.proofs.carry.Goals as goal
-
-pub carry_level-by-requires : goal.carry_level-by-requires
-carry_level-by-requires c =
-    let n = eqb-false _ _ (sym c.if-is_alone.ensures) in
-    record { more = omega (arith, c.loop-by.place.across, c.loop-by.place.down); room = c.loop-by.invariant.1 }
 
 pub loop-by-preserved : goal.loop-by-preserved
 loop-by-preserved c =

@@ -8,13 +8,6 @@ returns-in_err-map c =
     let p = err_from_is_err_and c.from_residual.result c.from_residual.ensures.1 in
     answer_refused _ _ _ _ _ _ c.in_err-map.ensures (p.1 ∙ ap Err p.2)
 
-pub build-requires : goal.build-requires
-build-requires c =
-    let o = c.in_ok-map.ensures.1 in
-    let q = o.square in
-    let r = o.room in
-    record { some = (o.side.some, rw q o.side.some); room = rw q (omega arith) }
-
 pub returns : goal.returns
 returns c =
     let o = c.in_ok-map.ensures in

@@ -8,11 +8,6 @@ returns-in_err-area c =
     let p = err_from_is_err_and c.from_residual.result c.from_residual.ensures.1 in
     answer_refused _ _ _ _ _ _ c.in_err-area.ensures (p.1 ∙ ap Err p.2)
 
-pub show-requires : goal.show-requires
-show-requires c =
-    let o = c.in_ok-area.ensures.1 in
-    rw (o.extent.0, o.extent.1) o.room
-
 pub returns : goal.returns
 returns c =
     let o = c.in_ok-area.ensures in

@@ -1,18 +1,8 @@
-use Rattle.std.proofs.Common.{ℕ, ◌*◌, vec_items, ap, ◌∙◌, rules}
+use Rattle.std.proofs.Common.{vec_items, ap, ◌∙◌}
 use Rattle.std.proofs.lemmas.List.{with_items_is}
 use Rattle.std.proofs.lemmas.Result.{err_from_is_err_and}
-use Rattle.tower.specs.Checks.{places}
-use Rattle.drafts.proofs.Standing.{few, finish_refused, finish_taken}
+use Rattle.drafts.proofs.Standing.{finish_refused, finish_taken}
 use Rattle.drafts.proofs.Draft.finish.Goals as goal
-
-pub overflow_mul-side : goal.overflow_mul-side
-overflow_mul-side c = let most = few _ _ c.in_ok-side.ensures.side in search rules
-
-pub new-requires : goal.new-requires
-unfolding places
-new-requires c =
-    let side = c.in_ok-side.ensures.side in
-    record { levels = side.levels; whole = c.in_ok-tower.ensures.len ∙ ap (λ (s : ℕ). s * s) side.value }
 
 pub returns-in_err-build : goal.returns-in_err-build
 returns-in_err-build c =

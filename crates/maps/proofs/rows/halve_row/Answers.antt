@@ -5,11 +5,8 @@ use Rattle.levels.specs.Maps.{apart}
 use Rattle.levels.proofs.Lines.{up_pair, up_last}
 use Rattle.maps.specs.Rows.{line}
 use Rattle.maps.proofs.Chunks.{chunk_number, left_number}
-use Rattle.maps.proofs.Written.{row_none, row_more, row_last}
+use Rattle.maps.proofs.Written.{row_more, row_last}
 use Rattle.maps.proofs.rows.halve_row.Goals as goal
-
-pub loop-i-init : goal.loop-i-init
-loop-i-init c = row_none _ _ _
 
 pub loop-i-preserved : goal.loop-i-preserved
 unfolding apart

@@ -1,10 +1,7 @@
 use Rattle.std.proofs.Common.{sym, append-nil, rules}
 use Rattle.messages.specs.Writing.{rows_of}
-use Rattle.messages.proofs.Rows.{rows_left, left_next, rows_more}
+use Rattle.messages.proofs.Rows.{left_next, rows_more}
 use Rattle.messages.proofs.write.write_rows.Goals as goal
-
-pub split_at-requires : goal.split_at-requires
-split_at-requires c = rows_left _ _ _ _ _ c.loop-v-test.true c.requires c.loop-v.invariant.left
 
 pub loop-v-init : goal.loop-v-init
 unfolding rows_of

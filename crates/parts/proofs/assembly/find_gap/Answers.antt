@@ -20,15 +20,6 @@ overflow_sub-size c =
     let h = begins_before c.loop-j.j in
     omega arith
 
-pub overflow_add-result : goal.overflow_add-result
-overflow_add-result c =
-    let e = c.loop-j.invariant.1 in
-    let q = c.loop-j.invariant.2 in
-    let h = begins_before c.loop-j.j in
-    let s = places_small c.loop-j.j (omega arith) in
-    let m = c.min.ensures in
-    omega arith
-
 pub returns-then-part-size : goal.returns-then-part-size
 unfolding part_size
 returns-then-part-size c =

@@ -1,13 +1,7 @@
-use Rattle.std.proofs.Common.{◌≡◌, ◌+◌, ◌-◌, length, get_or, arith, rules}
+use Rattle.std.proofs.Common.{◌≡◌, ◌+◌, ◌-◌, length, get_or, arith}
 use Rattle.parts.proofs.Gaps.{no_part}
 use Rattle.parts.proofs.Filling.{part_fits, part_length, part_put, all_put}
 use Rattle.parts.proofs.assembly.put_all.Goals as goal
-
-pub overflow_add-end : goal.overflow_add-end
-overflow_add-end c =
-    let o = c.loop-part.invariant in
-    let fits = part_fits c.args.parts.now c.loop-part.part-index c.loop-part.at c.loop-part.room o.0 o.1 o.2 c.loop-part-test.true in
-    search rules
 
 pub slice_bounds-copy_from_slice-end : goal.slice_bounds-copy_from_slice-end
 slice_bounds-copy_from_slice-end c =

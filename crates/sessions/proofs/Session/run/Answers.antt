@@ -1,8 +1,5 @@
-use Rattle.sessions.proofs.Lines.{none_yet, line_more, no_more}
+use Rattle.sessions.proofs.Lines.{line_more, no_more}
 use Rattle.sessions.proofs.Session.run.Goals as goal
-
-pub loop-line-init : goal.loop-line-init
-loop-line-init c = rw (c.into_iter-line-iterator.ensures.into_iter_gives, c.of-line-items.ensures) (none_yet _ _ _)
 
 pub loop-line-preserved : goal.loop-line-preserved
 loop-line-preserved c = line_more c.loop-line.invariant c.in-Some.ensures.steps (λ s o. c.in_ok-take_line.ensures s o)

@@ -12,13 +12,6 @@ overflow_cast-change c =
     let h = t.2 in
     omega (arith, ints)
 
-pub change-requires : goal.change-requires
-change-requires c =
-    let t = taken_place _ _ _ _ _ (each_taken _ _ c.args.changes.now c.loop-change.change-index (record { x = 0; y = 0; height = 0 }) c.requires.taken (omega arith)) in
-    let e = c.requires.side.1 in
-    let long = c.requires.whole in
-    rw e (omega arith)
-
 pub loop-change-preserved : goal.loop-change-preserved
 loop-change-preserved c p o =
     let d : Change = record { x = 0; y = 0; height = 0 } in

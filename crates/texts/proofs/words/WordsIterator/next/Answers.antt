@@ -1,14 +1,10 @@
 use Rattle.std.proofs.Common.{length, sym, refl, ap, ◌∙◌, arith}
-use Rattle.std.proofs.lemmas.List.Sums.{prefix_len-le-length}
 use Rattle.texts.specs.Words.{is_blank}
 use Rattle.texts.proofs.Pieces.{words_lost, words_found, or_length}
 use Rattle.texts.proofs.words.WordsIterator.next.Goals as goal
 
 pub returns-in_err-begin-clause-steps : goal.returns-in_err-begin-clause-steps
 returns-in_err-begin-clause-steps c = let none = sym c.self.view_is ∙ words_lost _ c.in_err-begin.ensures in rw c.from_residual.ensures (none, none)
-
-pub split_at-requires : goal.split_at-requires
-split_at-requires c = rw (or_length is_blank _ _ _ c.find_blank.ensures c.unwrap_or.ensures) (prefix_len-le-length _ _)
 
 pub returns-clause-steps : goal.returns-clause-steps
 returns-clause-steps c =
