@@ -16,6 +16,7 @@ use std::alloc::{AllocError, Global};
 use texts::read::{is_row_line, read_command, read_row};
 use texts::words::{Lines, Words};
 
+// The allocator and the text that is written to come with each call, since a session owns neither.
 impl Session {
     // Before the first line.
     pub fn new() -> Session
