@@ -31,7 +31,7 @@ fn row_to(high: usize, y: usize) -> usize
     }
 }
 
-// Each row of a map halved. By number, since a row's means and its differences go to places that its number tells.
+// Each row of a map halved. By number: three places are reckoned from it, and `chunks` takes no width of 0.
 fn halve_rows(map: &[i32], room: &mut [i32], size: Size)
     requires lengths { Covers size map.now × Covers size room.old }
     requires heights { (i : ℕ) → i < size.wide * size.high → Height (line map.now i) }
@@ -83,6 +83,8 @@ fn put_quad(map: &[i32], room: &mut [i32])
     let quad = Quad::of(map[0], map[1], map[2], map[3]);
     room[0..4].copy_from_slice(&<[i32; 4]>::from(quad));
 }
+
+// What is known of the room and the scratch stands in clauses and in no type, since the steps write them in turn.
 
 // The step across: the tower of the map that the scratch begins with, from its rows on. Nothing past it in the room is another.
 #[cycle(step_across_step_down)]

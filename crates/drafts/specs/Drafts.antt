@@ -37,4 +37,4 @@ pub record Whole (g : Given) (heights : List ℤ) (side : ℕ) : Type 0 where
 -- why no map is made: what the rows are refused for, or want of memory, which nothing tells beforehand
 abbrev pub Refuses : Option Refusal → MapError → Type 0
 Refuses refusal (Refused e) = refusal ≡ Some e
-Refuses refusal OutOfMemory = Unit {0}
+Refuses refusal (OutOfMemory _) = Unit {0}

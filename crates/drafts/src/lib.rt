@@ -27,7 +27,7 @@ pub struct Draft {
 #[derive(Clone, Copy, PartialEq, Eq, Debug)]
 pub enum MapError {
     Refused(Refusal),
-    OutOfMemory,
+    OutOfMemory(AllocError),
 }
 
 impl From<Refusal> for MapError {
@@ -43,10 +43,10 @@ impl From<Refusal> for MapError {
 impl From<AllocError> for MapError {
     ghost use Rattle.drafts.specs.declared.MapError.TheVariants.{OutOfMemory};
 
-    ghost from_gives = { λ _ error. error ≡ OutOfMemory };
+    ghost from_gives = { λ failed error. error ≡ OutOfMemory failed };
 
-    fn from(_error: AllocError) -> Self {
-        Self::OutOfMemory
+    fn from(failed: AllocError) -> Self {
+        Self::OutOfMemory(failed)
     }
 }
 

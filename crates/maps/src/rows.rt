@@ -1,4 +1,4 @@
-// A row one level up, and back.
+// A row one level up, and back. Means and differences are two slices, since they stand in two places of a tower.
 ghost use Rattle.std.specs.Prelude.{◌≡◌, ℕ, ◌+◌, ◌-◌, ◌*◌, ◌/◌, ◌%◌, ◌<◌, ◌≤◌, min, length};
 ghost use Rattle.pairs.specs.Pairs.{Height};
 ghost use Rattle.maps.specs.Rows.{line, PairsBack, RowBack, RowHalved};
@@ -70,7 +70,7 @@ fn even_back(means: &[i32], differences: &[i32], row: &mut [i32])
 {
     let w = row.len();
     let fours = w / 8;
-    // by index, since nothing is known of a slice that was written through its `chunks_exact_mut` or `as_chunks_mut`
+    // by index: tried with `as_chunks_mut`, after which nothing is known of the row
     for i in 0..fours {
         four_back(
             &means[4 * i..4 * i + 4],

@@ -7,7 +7,8 @@ ghost use Rattle.tower.specs.Calls.{Answered};
 use crate::places_of;
 use refusals::Refusal;
 
-// The first place of the tower that is missing in the parts, or too many.
+// The first place of the tower that is missing in the parts, or too many. Where a part begins and ends is told by its number and
+// not by those before it, which may be too long.
 fn find_gap(k: u64, parts: &[&[i32]]) -> Option<usize>
     requires { k ≤ max_k }
     ensures { result ≡ parts_wrong k 0 (contents parts.now) }
@@ -32,7 +33,8 @@ fn find_gap(k: u64, parts: &[&[i32]]) -> Option<usize>
     }
 }
 
-// The parts, one after the other, into a room of as many numbers.
+// The parts, one after the other, into a room of as many numbers. The place where each begins is kept: the room cut off part by
+// part would be lent out anew for each, which is no plainer.
 fn put_all(parts: &[&[i32]], room: &mut [i32])
     requires { length (joined (contents parts.now)) ≡ length room.old }
     ensures { room.new ≡ joined (contents parts.now) }

@@ -36,7 +36,7 @@ pub fn check_coarse(k: u64, tower: usize, level: u64) -> Result<usize, Refusal>
 }
 
 // The coarse part for a level: the first numbers of the tower, which are the tower of the map at that level. A part of none
-// where there is no such level.
+// where there is no such level, of which `check_coarse` tells why: this call cannot fail.
 pub fn coarse<'a>(k: u64, tower: &'a [i32], level: u64) -> &'a [i32]
     ensures { Handed (coarse_refusal k (length tower.now) level) result.now (CoarsePart k tower.now level result.now) }
 {
@@ -53,7 +53,8 @@ pub fn check_detail(k: u64, tower: usize, level: u64) -> Result<usize, Refusal>
     check_coarse(k, tower, level.saturating_add(1))
 }
 
-// The detail part for a level: the numbers that lead to it from the next coarser one. A part of none where there is none.
+// The detail part for a level: the numbers that lead to it from the next coarser one. A part of none where there is none, of
+// which `check_detail` tells why.
 pub fn detail<'a>(k: u64, tower: &'a [i32], level: u64) -> &'a [i32]
     ensures { Handed (detail_refusal k (length tower.now) level) result.now (result.now ≡ detail_of k tower.now level) }
 {

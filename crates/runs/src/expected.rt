@@ -1,4 +1,5 @@
-// What a text should answer, by a map that is kept as it is and halved anew for each answer.
+// What a text should answer, by a map that is kept as it is and halved anew for each answer. It reads, checks and refuses by
+// itself, so that an error of the product is none of the reference.
 use crate::given::Rows;
 use crate::halving::{Grid, level_of, side_of, tower_of};
 use crate::reading::{is_row, number_of, numbers_of, words_of};
@@ -7,7 +8,8 @@ use crate::tally::Tally;
 use messages::command::Command;
 use std::alloc::{AllocError, Global};
 
-// A part of a map at a level: what a command for a window names, which has no type of its own there.
+// A part of a map at a level: what a command for a window names, which has no type of its own there. `trials` has another, since
+// the two references share nothing.
 #[derive(Clone, Copy)]
 struct Part {
     x: u64,

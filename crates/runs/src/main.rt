@@ -13,7 +13,7 @@ mod tally;
 use crate::expected::expected;
 use crate::script::Script;
 use crate::tally::Tally;
-use anyhow::{Result, anyhow};
+use anyhow::anyhow;
 use sessions::Session;
 use std::alloc::{AllocError, Global};
 use std::fmt;
@@ -21,7 +21,7 @@ use std::fmt;
 const RUNS: u64 = 400;
 
 // What a session answers to a text that comes in pieces.
-fn answered(alloc: Global, pieces: &[&[u8]]) -> Result<String> {
+fn answered(alloc: Global, pieces: &[&[u8]]) -> Result<String, AllocError> {
     let mut session = Session::new();
     let mut out = String::new(alloc);
     for piece in pieces {
@@ -37,7 +37,7 @@ fn legible(alloc: Global, text: &[u8]) -> Result<String, AllocError> {
 }
 
 // A text whose answers differ, and these, on the standard error output.
-fn show(rt: &HostRuntime, text: &[u8], right: &str, answers: &str) -> Result<()> {
+fn show(rt: &HostRuntime, text: &[u8], right: &str, answers: &str) -> Result<(), AllocError> {
     let text = legible(rt.alloc(), text)?;
     let text = text.as_str();
     let _ = eprintln!(rt; "The text\n{text}\nshould answer\n{right}\nand answers\n{answers}");
@@ -52,6 +52,7 @@ struct Compared {
 }
 
 impl Compared {
+    // `trials` counts numbers that differ alike: two lines, in programs that share no code on purpose.
     fn compare(&mut self, a: &[u8], b: &[u8]) {
         let others = a.iter().zip(b).filter(|(x, y)| x != y).count();
         self.differ = self
@@ -68,7 +69,7 @@ impl Compared {
         text: &[u8],
         pieces: &[&[u8]],
         right: &str,
-    ) -> Result<()> {
+    ) -> Result<(), AllocError> {
         let before = self.differ;
         let whole = answered(rt.alloc(), &[text])?;
         let parted = answered(rt.alloc(), pieces)?;
@@ -87,7 +88,11 @@ impl fmt::Display for Compared {
     }
 }
 
-fn compare_runs(rt: &HostRuntime, tally: &mut Tally, compared: &mut Compared) -> Result<()> {
+fn compare_runs(
+    rt: &HostRuntime,
+    tally: &mut Tally,
+    compared: &mut Compared,
+) -> Result<(), AllocError> {
     let mut script = Script::new(rt.alloc(), 20261117);
     for _ in 0..RUNS {
         let text = script.next_run()?;
@@ -98,11 +103,12 @@ fn compare_runs(rt: &HostRuntime, tally: &mut Tally, compared: &mut Compared) ->
     Ok(())
 }
 
-fn main(rt: HostRuntime) -> Result<()> {
+fn main(rt: HostRuntime) -> anyhow::Result<()> {
     let mut tally = Tally::default();
     let mut compared = Compared::default();
-    // Nothing else stops a run.
-    compare_runs(&rt, &mut tally, &mut compared).map_err(|_| anyhow!("out of memory"))?;
+    if compare_runs(&rt, &mut tally, &mut compared).is_err() {
+        return Err(anyhow!("out of memory"));
+    }
     println!(rt; "{RUNS} runs, {tally}")?;
     println!(rt; "{compared}")?;
     Ok(())

@@ -1,4 +1,4 @@
-// The lines of a text, the words of a line, and words as numbers.
+// The words of a line, and words as numbers: the reference's own reading, so that an error of `texts` is none of it.
 use std::alloc::{AllocError, Global};
 
 fn is_blank(byte: u8) -> bool {

@@ -29,6 +29,7 @@ impl fmt::Display for Refused {
     }
 }
 
+// Why a line of the reference stops; of its own refusals, so no `MapError`.
 #[derive(Clone, Copy, Debug)]
 pub enum Stopped {
     Refused(Refused),

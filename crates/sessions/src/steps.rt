@@ -39,7 +39,7 @@ impl Session {
         match draft.finish(alloc) {
             Ok(viewer) => self.viewer = Some(viewer),
             Err(MapError::Refused(refusal)) => write_refusal(out, refusal)?,
-            Err(MapError::OutOfMemory) => return Err(AllocError),
+            Err(MapError::OutOfMemory(failed)) => return Err(failed),
         }
         Ok(())
     }

@@ -96,7 +96,7 @@ impl Shown {
     }
 }
 
-// The numbers in one line.
+// The numbers in one line, straight to the output: `messages` would write them to a text first.
 fn print_numbers(rt: &HostRuntime, numbers: &[i32]) -> io::Result<()> {
     if let Some((first, rest)) = numbers.split_first() {
         print!(rt; "{first}")?;

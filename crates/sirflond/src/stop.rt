@@ -1,4 +1,4 @@
-// Why a line is not obeyed to its end: it is refused, or the program cannot go on.
+// Why a line is not obeyed to its end: it is refused, or the program cannot go on, by any error of its own.
 use refusals::Refusal;
 use std::alloc::AllocError;
 use std::io;

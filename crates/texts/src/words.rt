@@ -7,7 +7,8 @@ ghost use Rattle.texts.specs.Words.{height_number, is_blank, is_end, lines, numb
 
 use std::marker::Model;
 
-// Where the first line ends, if a line end is there. Each search stands by itself, since its caller knows it by its clause.
+// Where the first line ends, if a line end is there. The three searches stand by themselves: with the
+// test as a parameter each caller would have to say what its closure does.
 fn find_end(text: &[u8]) -> Option<usize>
     ensures { result ≡ position is_end text.now }
 {
@@ -124,7 +125,7 @@ impl<'a> Iterator for Words<'a> {
     }
 }
 
-// A number of digits alone.
+// A number of digits alone. Not by `parse`, which takes a plus sign, and takes no bytes.
 pub fn read_number(word: &[u8]) -> Option<u64>
     ensures { result ≡ number_of word.now }
 {

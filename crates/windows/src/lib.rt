@@ -28,6 +28,7 @@ fn ones(place: usize, means: &[i32], differences: &[i32], row: &mut [i32])
     }
 }
 
+// The room and the numbers aside are lent beside the area, since they are written, and the area is only read.
 impl<'a> Area<'a> {
     // The places one level up that these are parts of.
     fn up(&self) -> Area<'a>
