@@ -2,7 +2,8 @@
 --     BeginsWith          a list begins with a map, row by row
 --     BeginsParted        the same with its even rows first and then its odd ones
 --     RowsHalved          the first n rows of a map halved
---     ColumnsHalved       the first n numbers halved with those that stand so many further on
+--     PairsHalved         upper places halved with the lower ones below them
+--     ColumnsHalved       the first n numbers of a room halved with those that stand so many further on
 --     Copied              numbers from an index on, copied up to another
 use Rattle.std.specs.Prelude.{◌≡◌, ℕ, ◌+◌, ◌*◌, ◌/◌, ◌<◌, ◌≤◌, List, ℤ}
 use Rattle.pairs.specs.Pairs.{mean_of, difference_of}
@@ -24,7 +25,13 @@ pub record RowsHalved (src was now : List ℤ) (w h n : ℕ) : Type 0 where
   pub across : (x v : ℕ) → x < w / 2 → v < n → line now ((w + 1) / 2 * h + (v * (w / 2) + x)) ≡ across (map_in w src) x v
   pub rest : (i : ℕ) → w * h ≤ i → line now i ≡ line was i
 
--- the means are put out, the differences stay
+-- so far n upper places and the lower ones below them
+pub record PairsHalved (n : ℕ) (upper was now out : List ℤ) : Type 0 where
+  pub means : (k : ℕ) → k < n → line out k ≡ mean_of (line upper k) (line was k)
+  pub downs : (k : ℕ) → k < n → line now k ≡ difference_of (line upper k) (line was k)
+  pub rest : (k : ℕ) → n ≤ k → line now k ≡ line was k
+
+-- the same in one room: the means are put out, the differences stay
 pub record ColumnsHalved (was now out : List ℤ) (count n : ℕ) : Type 0 where
   pub means : (k : ℕ) → k < n → line out k ≡ mean_of (line was k) (line was (count + k))
   pub downs : (k : ℕ) → k < n → line now (count + k) ≡ difference_of (line was k) (line was (count + k))

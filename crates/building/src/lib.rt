@@ -8,7 +8,7 @@ ghost use Rattle.levels.specs.Numbering.{Holds, map_in};
 ghost use Rattle.maps.specs.Limits.{max_side};
 ghost use Rattle.maps.specs.Rows.{line};
 ghost use Rattle.maps.specs.Sizes.{Covers, HasPlaces};
-ghost use Rattle.building.specs.Steps.{BeginsParted, BeginsWith, ColumnsHalved, Copied, RowsHalved};
+ghost use Rattle.building.specs.Steps.{BeginsParted, BeginsWith, Copied, PairsHalved, RowsHalved};
 
 use maps::HeightMap;
 use maps::quad::Quad;
@@ -51,21 +51,21 @@ fn halve_rows(map: &[i32], room: &mut [i32], size: Size)
     }
 }
 
-// The first numbers halved with those that stand `count` further on: the means go to `out`, the differences stay.
-fn halve_columns(room: &mut [i32], out: &mut [i32], count: usize, pairs: usize)
-    requires size { (pairs ≤ count) × ((count + pairs ≤ length room.old) × (pairs ≤ length out.old)) }
-    requires heights { (i : ℕ) → i < count + pairs → Height (line room.old i) }
-    ensures { ColumnsHalved room.old room.new out.new count pairs }
+// Upper places halved with the lower ones below them: the means go to `out`, the differences take the place of the lower ones.
+fn halve_columns(upper: &[i32], lower: &mut [i32], out: &mut [i32])
+    requires lengths { (length lower.old ≤ length upper.now) × (length lower.old ≤ length out.old) }
+    requires heights { (i : ℕ) → i < length lower.old → Height (line upper.now i) × Height (line lower.old i) }
+    ensures { PairsHalved (length lower.old) upper.now lower.old lower.new out.new }
 {
-    // by index, since upper and lower rows stand in one room
-    for i in 0..pairs {
-        let pair = Pair::of(room[i], room[count + i]);
+    for (i, place) in lower.iter_mut().enumerate() {
+        let pair = Pair::of(upper[i], *place);
         out[i] = pair.mean;
-        room[count + i] = pair.difference;
+        *place = pair.difference;
     }
 }
 
-// The numbers from an index on copied, up to another: a last row without one below it goes up as it is.
+// The numbers from an index on copied, up to another: a last row without one below it goes up as it is. The places are the same in
+// both, so they are named once.
 fn copy_rest(room: &[i32], out: &mut [i32], from: usize, end: usize)
     requires { (from ≤ end) × ((end ≤ length room.now) × (end ≤ length out.old)) }
     ensures { Copied room.now out.old out.new from end }
@@ -118,7 +118,8 @@ fn step_down(room: &mut [i32], scratch: &mut [i32], size: Size)
     let half = (size.wide + 1) / 2;
     let count = half * ((size.high + 1) / 2);
     let pairs = half * (size.high / 2);
-    halve_columns(room, scratch, count, pairs);
+    let (upper, lower) = room.split_at_mut(count);
+    halve_columns(upper, &mut lower[0..pairs], scratch);
     copy_rest(room, scratch, pairs, count);
     step_across(room, scratch, size.up());
 }
