@@ -13,6 +13,17 @@ pub struct Size {
 }
 
 impl Size {
+    // As wide as high.
+    pub fn square(side: usize) -> Size
+        requires { side ≤ max_side }
+        ensures { (result.wide ≡ side) × (result.high ≡ side) }
+    {
+        Size {
+            wide: side,
+            high: side,
+        }
+    }
+
     // The size one level up: half of it, where a last place alone counts as a pair.
     pub fn up(self) -> Size
         ensures wide { result.wide ≡ (self.wide + 1) / 2 }

@@ -1,7 +1,7 @@
 // Parts of a tower of 2^k by 2^k places: handed back without a copy, and put together again.
 #![tactic(auto)]
 
-ghost use Rattle.std.specs.Prelude.{◌≡◌, ◌*◌, ◌<◌, length, Some, None, MatchResult};
+ghost use Rattle.std.specs.Prelude.{◌≡◌, ◌<◌, length, Some, None, MatchResult};
 ghost use Rattle.refusals.specs.declared.Refusal.TheVariants.{TooManyLevels};
 ghost use Rattle.maps.specs.Limits.{max_k};
 ghost use Rattle.tower.specs.Calls.{Answered};

@@ -1,5 +1,5 @@
 // The lines of a text, and its end.
-ghost use Rattle.std.specs.Prelude.{◌≡◌, ◌++◌, is_some, IfOk, Some, None, string_bytes, OnOk};
+ghost use Rattle.std.specs.Prelude.{◌≡◌, is_some, IfOk, Some, None, string_bytes, OnOk};
 ghost use Rattle.drafts.specs.Drafts.{Drafts};
 ghost use Rattle.drafts.specs.Given.{Given, with_row};
 ghost use Rattle.texts.specs.Commands.{command as command_in, is_row, row};

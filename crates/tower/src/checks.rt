@@ -1,9 +1,8 @@
 // The checks of the calls, in their order. Each gives what is then known.
-ghost use Rattle.std.specs.Prelude.{◌≡◌, ◌↔◌, ℕ, ◌+◌, ◌-◌, ◌*◌, ◌<◌, ◌≤◌, min, ◌&&◌, IsTrue, length, ℤ, Some, None, MatchResult, ◌≢◌};
+ghost use Rattle.std.specs.Prelude.{◌≡◌, ◌↔◌, ℕ, ◌<◌, min, ◌&&◌, IsTrue, length, Some, None, MatchResult, ◌≢◌};
 ghost use Rattle.refusals.specs.declared.Refusal.TheVariants.{TooManyLevels, WrongNumber};
-ghost use Rattle.pairs.specs.Pairs.{Height, max_height};
-ghost use Rattle.levels.specs.Maps.{power};
-ghost use Rattle.maps.specs.Limits.{max_k, max_side};
+ghost use Rattle.pairs.specs.Pairs.{Height};
+ghost use Rattle.maps.specs.Limits.{max_k};
 ghost use Rattle.maps.specs.Rows.{line};
 ghost use Rattle.tower.specs.Checks.{build_refusal, change_refusal, first_wrong, is_on_side, window_refusal};
 ghost use Rattle.tower.specs.Known.{CanBuild, CanChange, CanShow, SideOf, WholeMap};
@@ -81,10 +80,7 @@ pub fn check_build<'a>(k: u64, heights: &'a [i32], room: usize) -> Result<Height
     if room != side * side {
         return Err(Refusal::WrongRoom(room as u64));
     }
-    let size = Size {
-        wide: side,
-        high: side,
-    };
+    let size = Size::square(side);
     Ok(HeightMap { size, heights })
 }
 
@@ -127,10 +123,7 @@ pub fn check_window<'a>(
     if room as u64 != wide * high {
         return Err(Refusal::WrongRoom(room as u64));
     }
-    let size = Size {
-        wide: side,
-        high: side,
-    };
+    let size = Size::square(side);
     Ok(Area {
         tower,
         size,
@@ -153,10 +146,7 @@ pub fn check_change(k: u64, tower: usize, x: u64, y: u64, height: u64) -> Result
     if height > HeightMap::MAX_HEIGHT as u64 {
         return Err(Refusal::TooHigh);
     }
-    let size = Size {
-        wide: side,
-        high: side,
-    };
+    let size = Size::square(side);
     Ok(Place {
         size,
         x: x as usize,

@@ -1,5 +1,5 @@
 // A map built and changed: what whole runs of calls leave.
-ghost use Rattle.std.specs.Prelude.{◌≡◌, ℕ, ◌*◌, ◌<◌, ◌≤◌, List, length, Some, None, MatchResult};
+ghost use Rattle.std.specs.Prelude.{◌≡◌, ◌*◌, length, Some, None, MatchResult};
 ghost use Rattle.levels.specs.Maps.{Map};
 ghost use Rattle.levels.specs.Numbering.{Holds};
 ghost use Rattle.tower.specs.Calls.{Answered};

@@ -26,4 +26,5 @@ pub returns : goal.returns
 returns c =
     let s = c.in_ok-side.ensures in
     let m = c.in_ok-check_map.ensures in
-    (build_taken _ _ _ s.levels _ s.value m.right c.if-room-side.false, record { side = s; square = refl; heights = refl; whole = m.whole; room = c.if-room-side.false })
+    let q = c.square-size.ensures in
+    (build_taken _ _ _ s.levels _ s.value m.right c.if-room-side.false, record { side = rw q.0 s; square = q.1 ∙ sym q.0; heights = refl; whole = rw q.0 m.whole; room = rw q.0 c.if-room-side.false })

@@ -30,7 +30,8 @@ returns-then-height c =
 pub returns : goal.returns
 returns c =
     let s = c.in_ok-side.ensures in
-    let n = c.in_ok-check_length.ensures in (
+    let n = c.in_ok-check_length.ensures in
+    let q = c.square-size.ensures in (
       change_taken _ _ _ _ _ s.levels _ s.value n c.if-x-side.false c.if-y-side.false c.if-height.false,
-      record { side = s; square = refl; whole = n; place = (refl, refl); height = c.if-height.false },
+      record { side = rw q.0 s; square = q.1 ∙ sym q.0; whole = rw q.0 n; place = (refl, refl); height = c.if-height.false },
     )

@@ -49,14 +49,16 @@ invariant_of-result c =
     let t = c.in_ok-whole.ensures in
     let n = c.in_ok-check_length.ensures in
     let b = both_on _ _ _ _ _ c.if-not-on_map.ensures in
-    record { room = level_within _ _ _ _ c.if-level-k.false s.value (rw t.value at n); across = (on_true _ _ _ b.0).1; down = (on_true _ _ _ b.1).1 }
+    let q = c.square-size.ensures in
+    record { room = rw (q.0, q.1) (level_within _ _ _ _ c.if-level-k.false s.value (rw t.value at n)); across = rw q.0 (on_true _ _ _ b.0).1; down = rw q.1 (on_true _ _ _ b.1).1 }
 
 pub returns : goal.returns
 returns c =
     let t = c.in_ok-whole.ensures in
     let s = c.in_ok-side.ensures in
     let n = c.in_ok-check_length.ensures in
-    let b = both_on _ _ _ _ _ c.if-not-on_map.ensures in (
+    let b = both_on _ _ _ _ _ c.if-not-on_map.ensures in
+    let q = c.square-size.ensures in (
       window_taken _ _ _ _ _ _ _ _ t.levels _ t.value n c.if-level-k.false _ s.value b.0 b.1 c.if-room-wide.false,
-      record { levels = t.levels; level = c.if-level-k.false; side = s; square = refl; tower = refl; whole = rw t.value at n; from = (refl, refl); extent = (refl, refl); room = c.if-room-wide.false },
+      record { levels = t.levels; level = c.if-level-k.false; side = rw q.0 s; square = q.1 ∙ sym q.0; tower = refl; whole = rw t.value at n; from = (refl, refl); extent = (refl, refl); room = c.if-room-wide.false },
     )
