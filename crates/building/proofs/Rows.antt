@@ -42,10 +42,10 @@ module _ (src : List ℤ) (w y : ℕ) (end : y * w + w ≤ length src) where
     pub rest : (i : ℕ) → (to ≤ i → i < to + (w + 1) / 2 → ⊥) → (beside ≤ i → i < beside + w / 2 → ⊥) → line now i ≡ line was i
 
   -- the two parts of the room that it is halved into were lent
-  pub row_put : (was f g ms ds : List ℤ) (b to k a n : ℕ) → RowHalved row ms ds → was ≡ f ++ g → length f ≡ b → length ms ≡ k → length ds ≡ n → k ≡ (w + 1) / 2 → n ≡ w / 2 → to + k ≤ length f → a + n ≤ length g →
+  pub row_put : (was f g ms₀ ms ds₀ ds : List ℤ) (b to k a n : ℕ) → RowHalved row ms₀ ms ds₀ ds → was ≡ f ++ g → length f ≡ b → length ms ≡ k → length ds ≡ n → k ≡ (w + 1) / 2 → n ≡ w / 2 → to + k ≤ length f → a + n ≤ length g →
       RowPut was (put_mid to k f ms ++ put_mid a n g ds) to (b + a)
   unfolding means across apart
-  row_put was f g ms ds b to k a n o ew eb em ed ek en hf hg =
+  row_put was f g ms₀ ms ds₀ ds b to k a n o ew eb em ed ek en hf hg =
       let e = row_length in
       let o' = rw e at o in
       rw (← eb, ew) (record {

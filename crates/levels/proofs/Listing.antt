@@ -1,9 +1,9 @@
 -- A list of numbers row by row is the rows written out, and one that holds a tower is the tower written out. Assumes nothing.
-use Rattle.std.proofs.Common.{◌≡◌, ℕ, zero, suc, ◌+◌, ◌*◌, ◌/◌, ◌<◌, ◌≤◌, List, [], ◌++◌, length, get_or, take, drop, ℤ, pos, sym, ap, ◌∙◌, mul-le-mul_right, zero-add, zero-mul, add-one, arith, take-add}
-use Rattle.std.specs.List.{flat_map}
-use Rattle.std.proofs.lemmas.List.{flat_map_more, length-drop, length-take-le, take-append-drop, take_all, drop-drop, get_or-take, get_or-drop}
+use Rattle.std.proofs.Common.{◌≡◌, ℕ, zero, suc, ◌+◌, ◌*◌, ◌/◌, ◌<◌, ◌≤◌, List, [], ◌∷◌, ◌++◌, map, length, get_or, take, drop, ℤ, pos, sym, ap, ◌∙◌, mul-le-mul_right, zero-add, zero-mul, add-one, arith, take-add}
+use Rattle.std.specs.List.{range_with_len, flat_map}
+use Rattle.std.proofs.lemmas.List.{flat_map_more, length-append, length-drop, length-take-le, take-append-drop, take_all, drop-drop, get_or-take, get_or-drop}
 use Rattle.std.proofs.lemmas.Nat.{mul-add-lt}
-use Rattle.std.proofs.lemmas.List.FromFn.{map-range_with_len_more, fill_by_all}
+use Rattle.std.proofs.lemmas.List.FromFn.{length-range_with_len, length-map-range_with_len, get_or-map-range_with_len, map-range_with_len_more, fill_by_all}
 use Rattle.levels.specs.Maps.{Map, size, across, halved, down, level}
 use Rattle.levels.specs.Towers.{tower}
 use Rattle.levels.specs.Numbering.{tower_in, Holds}
@@ -11,6 +11,24 @@ use Rattle.levels.specs.Listing.{listed, rows_at, grid, tower_list}
 use Rattle.levels.specs.Laws.{ListedTower}
 use Rattle.levels.proofs.Sizes.{size_le}
 use Rattle.levels.proofs.Held.{above, down_there, across_there, held_by}
+
+-- how many rows, and how many numbers
+pub length_rows : (x y w h : ℕ) (p : Map) → length (rows_at x y w h p) ≡ h
+unfolding rows_at
+length_rows x y w h p = length-map-range_with_len (λ v. listed w (λ u. p (x + u) (y + v))) 0 h
+
+length_joined : (g : ℕ → List ℤ) (w : ℕ) (vs : List ℕ) → ((v : ℕ) → length (g v) ≡ w) → length (flat_map (λ row. row) (map g vs)) ≡ w * length vs
+length_joined g w [] e = omega arith
+length_joined g w (v ∷ vs) e = rw (length-append, e v, length_joined g w vs e) (omega arith)
+
+pub length_joined_rows : (x y w h : ℕ) (p : Map) → length (flat_map (λ row. row) (rows_at x y w h p)) ≡ w * h
+unfolding rows_at
+length_joined_rows x y w h p = length_joined _ w (range_with_len 0 h) (λ v. length-map-range_with_len (λ u. p (x + u) (y + v)) 0 w) ∙ ap (λ (n : ℕ). w * n) (length-range_with_len 0 h)
+
+-- a row by its number
+pub row_cut : (x y w h v : ℕ) (p : Map) → v < h → get_or (rows_at x y w h p) v [] ≡ listed w (λ u. p (x + u) (y + v))
+unfolding rows_at
+row_cut x y w h v p lt = get_or-map-range_with_len (λ v. listed w (λ u. p (x + u) (y + v))) 0 h v v [] lt (zero-add v)
 
 -- in a list that holds the places row by row, the v-th stretch of w numbers is the v-th row
 pub part_cut : (x y w h v : ℕ) (ts : List ℤ) (p : Map) → length ts ≡ w * h → ((u v : ℕ) → u < w → v < h → get_or ts (v * w + u) (pos 0) ≡ p (x + u) (y + v)) → v < h →

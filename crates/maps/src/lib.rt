@@ -15,7 +15,7 @@ pub mod size;
 use crate::size::Size;
 
 // A map that is lent: how large it is, and its heights row by row.
-#[derive(Clone, Copy)]
+#[derive(Clone, Copy, PartialEq, Eq, Debug)]
 pub struct HeightMap<'a> {
     pub size: Size,
     pub heights: &'a [i32],

@@ -6,11 +6,12 @@ ghost use Rattle.maps.specs.Rows.{line, PairsBack, RowBack, RowHalved};
 use crate::lanes::four_back;
 use pairs::Pair;
 
-// A row of heights halved: the means of its pairs, and a last place alone, and the differences of its pairs.
+// A row of heights halved: the means of its pairs, and a last place alone, and the differences of its pairs. Both rooms may be
+// longer; nothing past the row's numbers is another.
 pub fn halve_row(row: &[i32], means: &mut [i32], differences: &mut [i32])
-    requires lengths { (length means.old ≡ (length row.now + 1) / 2) × (length differences.old ≡ length row.now / 2) }
+    requires lengths { ((length row.now + 1) / 2 ≤ length means.old) × (length row.now / 2 ≤ length differences.old) }
     requires heights { (i : ℕ) → i < length row.now → Height (line row.now i) }
-    ensures { RowHalved row.now means.new differences.new }
+    ensures { RowHalved row.now means.old means.new differences.old differences.new }
 {
     let (pairs, last) = row.as_chunks::<2>();
     for (i, &[left, right]) in pairs.iter().enumerate() {

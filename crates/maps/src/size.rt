@@ -4,7 +4,7 @@ ghost use Rattle.levels.specs.Numbering.{across_index, down_index};
 ghost use Rattle.maps.specs.Limits.{max_side};
 
 // So many places across and down, of each no more than the longest side.
-#[derive(Clone, Copy)]
+#[derive(Clone, Copy, PartialEq, Eq, Debug)]
 pub struct Size {
     pub wide: usize,
     pub high: usize,

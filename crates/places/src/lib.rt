@@ -12,7 +12,7 @@ use maps::size::Size;
 use pairs::Pair;
 
 // So far across and so far down a map of that size.
-#[derive(Clone, Copy)]
+#[derive(Clone, Copy, PartialEq, Eq, Debug)]
 pub struct Place {
     pub size: Size,
     pub x: usize,

@@ -14,7 +14,7 @@ use Rattle.windows.specs.Areas.{IsOf, Shows}
 use Rattle.windows.specs.declared.area.Area.{Area}
 use Rattle.refusals.specs.declared.Refusal.{Refusal}
 use Rattle.tower.specs.Checks.{places}
-use Rattle.tower.specs.Known.{CanBuild, CanChange, CanShow}
+use Rattle.tower.specs.Known.{CanBuild, CanChange, CanShowArea}
 use Rattle.tower.specs.Calls.{BuiltTower, ChangedTower, ShownWindow, Answered}
 use Rattle.tower.proofs.Squared.{to_tower, from_tower, level_tower, level_shown}
 
@@ -50,7 +50,7 @@ changed k n x y g z ts after q ez o el holds rest =
       square = λ p t. to_tower k after (with_height p x y (pos g)) (hold p (from_tower k ts p t));
     }
 
-pub shown : (k l x y w h m : ℕ) (ts after : List ℤ) (a : Area) → CanShow k ts l x y w h m a → length after ≡ m →
+pub shown : (k l x y w h m : ℕ) (ts after : List ℤ) (a : Area) → CanShowArea k ts l x y w h m a → length after ≡ m →
     ((j : ℕ) (p : Map) → IsOf a j p → Shows a after p) → ShownWindow k ts l x y w h after
 shown k l x y w h m ts after a o el window =
     let e = o.side.value in

@@ -1,5 +1,5 @@
 -- What is known once the checks of a call are passed. Assumes nothing: these are definitions.
-use Rattle.std.specs.Prelude.{◌≡◌, ℕ, ◌-◌, ◌*◌, ◌<◌, ◌≤◌, List, length, ℤ, None}
+use Rattle.std.specs.Prelude.{◌≡◌, ℕ, ◌+◌, ◌-◌, ◌*◌, ◌<◌, ◌≤◌, List, length, ℤ, None}
 use Rattle.pairs.specs.Pairs.{Height, max_height}
 use Rattle.levels.specs.Maps.{power}
 use Rattle.maps.specs.Limits.{max_k, max_side}
@@ -30,8 +30,18 @@ pub record CanBuild (k : ℕ) (hs : List ℤ) (n : ℕ) (m : HeightMap) : Type 0
   pub whole : length hs ≡ m.size.wide * m.size.wide
   pub room : n ≡ m.size.wide * m.size.wide
 
+-- s is the side of the level
+pub record CanShow (k n l x y w h m s : ℕ) : Type 0 where
+  pub levels : k ≤ max_k
+  pub level : l ≤ k
+  pub side : SideOf (k - l) s
+  pub whole : n ≡ power k * power k
+  pub across : x + w ≤ s
+  pub down : y + h ≤ s
+  pub room : m ≡ w * h
+
 -- a is that part of the map at the level, with the tower
-pub record CanShow (k : ℕ) (ts : List ℤ) (l x y w h m : ℕ) (a : Area) : Type 0 where
+pub record CanShowArea (k : ℕ) (ts : List ℤ) (l x y w h m : ℕ) (a : Area) : Type 0 where
   pub levels : k ≤ max_k
   pub level : l ≤ k
   pub side : SideOf (k - l) a.size.wide

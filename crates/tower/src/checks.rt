@@ -5,7 +5,7 @@ ghost use Rattle.pairs.specs.Pairs.{Height};
 ghost use Rattle.maps.specs.Limits.{max_k};
 ghost use Rattle.maps.specs.Rows.{line};
 ghost use Rattle.tower.specs.Checks.{build_refusal, change_refusal, first_wrong, is_on_side, window_refusal};
-ghost use Rattle.tower.specs.Known.{CanBuild, CanChange, CanShow, SideOf, WholeMap};
+ghost use Rattle.tower.specs.Known.{CanBuild, CanChange, CanShow, CanShowArea, SideOf, WholeMap};
 
 use maps::HeightMap;
 use maps::size::Size;
@@ -98,8 +98,37 @@ fn on_map(side: u64, x: u64, y: u64, wide: u64, high: u64) -> bool
     on_side(side, x, wide) && on_side(side, y, high)
 }
 
-// What `window` asks: the places of the level that are to be shown.
-pub fn check_window<'a>(
+// What `window` asks of a tower of so many numbers: the side of the level.
+pub fn check_window(
+    k: u64,
+    tower: usize,
+    level: u64,
+    x: u64,
+    y: u64,
+    wide: u64,
+    high: u64,
+    room: usize,
+) -> Result<usize, Refusal>
+    ensures { MatchResult result (λ s. (window_refusal k tower level x y wide high room ≡ None) × CanShow k tower level x y wide high room s) (λ e. window_refusal k tower level x y wide high room ≡ Some e) }
+{
+    let whole = side_of(k)?;
+    check_length(tower, whole * whole)?;
+    if level > k {
+        return Err(Refusal::NoSuchLevel);
+    }
+    let side = side_of(k - level)?;
+    if !on_map(side as u64, x, y, wide, high) {
+        return Err(Refusal::OffTheMap);
+    }
+    if room as u64 == wide * high {
+        Ok(side)
+    } else {
+        Err(Refusal::WrongRoom(room as u64))
+    }
+}
+
+// The same of a tower that is lent: the places of the level that are to be shown.
+pub fn check_area<'a>(
     k: u64,
     tower: &'a [i32],
     level: u64,
@@ -109,20 +138,9 @@ pub fn check_window<'a>(
     high: u64,
     room: usize,
 ) -> Result<Area<'a>, Refusal>
-    ensures { MatchResult result (λ a. (window_refusal k (length tower.now) level x y wide high room ≡ None) × CanShow k tower.now level x y wide high room a) (λ e. window_refusal k (length tower.now) level x y wide high room ≡ Some e) }
+    ensures { MatchResult result (λ a. (window_refusal k (length tower.now) level x y wide high room ≡ None) × CanShowArea k tower.now level x y wide high room a) (λ e. window_refusal k (length tower.now) level x y wide high room ≡ Some e) }
 {
-    let whole = side_of(k)?;
-    check_length(tower.len(), whole * whole)?;
-    if level > k {
-        return Err(Refusal::NoSuchLevel);
-    }
-    let side = side_of(k - level)?;
-    if !on_map(side as u64, x, y, wide, high) {
-        return Err(Refusal::OffTheMap);
-    }
-    if room as u64 != wide * high {
-        return Err(Refusal::WrongRoom(room as u64));
-    }
+    let side = check_window(k, tower.len(), level, x, y, wide, high, room)?;
     let size = Size::square(side);
     Ok(Area {
         tower,

@@ -10,7 +10,7 @@ ghost use Rattle.tower.specs.Checks.{build_refusal, change_refusal, window_refus
 pub mod checks;
 pub mod runs;
 
-use crate::checks::{check_build, check_change, check_window};
+use crate::checks::{check_area, check_build, check_change};
 use refusals::Refusal;
 
 // What a call has done.
@@ -43,7 +43,7 @@ pub fn window(
 ) -> Result<Done, Refusal>
     ensures { Answered (window_refusal k (length tower.now) level x y wide high (length room.old)) result Shown room.old room.new (ShownWindow k tower.now level x y wide high room.new) }
 {
-    let area = check_window(k, tower, level, x, y, wide, high, room.len())?;
+    let area = check_area(k, tower, level, x, y, wide, high, room.len())?;
     area.show(room);
     Ok(Done::Shown)
 }

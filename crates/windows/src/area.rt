@@ -4,7 +4,7 @@ ghost use Rattle.std.specs.Prelude.{◌+◌, ◌*◌, ◌≤◌, length};
 use maps::size::Size;
 
 // Places of a map, so wide and high, from x across and y down, and the numbers that begin with the tower of the map.
-#[derive(Clone, Copy)]
+#[derive(Clone, Copy, PartialEq, Eq, Debug)]
 pub struct Area<'a> {
     pub tower: &'a [i32],
     pub size: Size,

@@ -34,9 +34,14 @@ mod tests {
     #[test]
     fn a_row_halved(rt: HostRuntime) {
         let mut room = [7; 5];
-        let (means, differences) = room[1..4].split_at_mut(2);
+        let (means, differences) = room[1..5].split_at_mut(2);
         halve_row(&[1, 2, 9], means, differences);
         assert_eq!(rt; room, [7, 1, 9, -1, 7]);
+        let mut means = [7; 4];
+        let mut differences = [7; 3];
+        halve_row(&[1, 2, 9], &mut means, &mut differences);
+        assert_eq!(rt; means, [1, 9, 7, 7]);
+        assert_eq!(rt; differences, [-1, 7, 7]);
     }
 
     #[test]

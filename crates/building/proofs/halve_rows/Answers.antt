@@ -37,4 +37,4 @@ loop-y-preserved c =
     let d = row_before (w / 2) y h (omega arith) in
     let e = widths w h in
     rows_more map c.args.room.now c.loop-y.room _ w h y c.row_to.result (omega arith) c.row_to.ensures.within c.row_to.ensures.even c.row_to.ensures.odd end
-    (row_put map w y end c.loop-y.room _ _ _ _ _ _ _ _ _ c.halve_row.ensures c.split_at_mut-means.ensures.value c.split_at_mut-means.ensures.front_len (omega arith) (omega arith) (omega arith) (omega arith) (omega arith) (omega arith)) c.loop-y.invariant
+    (row_put map w y end c.loop-y.room _ _ _ _ _ _ _ _ _ _ _ c.halve_row.ensures c.split_at_mut-means.ensures.value c.split_at_mut-means.ensures.front_len (omega arith) (omega arith) (omega arith) (omega arith) (omega arith) (omega arith)) c.loop-y.invariant

@@ -19,7 +19,7 @@ loop-i-preserved c =
     let ha = c.requires.heights (2 * i) (omega arith) in
     let hb = c.requires.heights (2 * i + 1) (omega arith) in
     let e = pair_read _ _ _ _ _ _ (left _) (right _) ha hb c.of-pair.ensures.exact in
-    row_more row _ _ i _ (omega arith) (read_height _ _ e.0 (mean_height _ _ ha hb) ∙ sym (up_pair (length row) (line row) i (omega arith))) c.loop-i.invariant
+    row_more row _ _ _ _ i _ (omega arith) (read_height _ _ e.0 (mean_height _ _ ha hb) ∙ sym (up_pair (length row) (line row) i (omega arith))) c.loop-i.invariant
     _ (omega arith) (read_difference _ _ e.1 (difference_in _ _ ha hb))
 
 pub returns-in-Some : goal.returns-in-Some
@@ -33,4 +33,4 @@ returns-in-Some c =
     let em : (length c.args.row.now + 1) / 2 ≡ length c.args.row.now / 2 + 1 = omega arith in
     let alone = left_number row _ p _ c.as_chunks.ensures.back (some.1 (pos 0)) in
     let h = c.requires.heights (2 * p) (omega arith) in
-    rw (em, ef) (row_last row _ _ p _ (omega arith) (read_height _ _ alone h ∙ sym (up_last (length row) (line row) p (omega arith))) (rw ei at c.loop-i.invariant))
+    rw (em, ef) (row_last row _ _ _ _ p _ (omega arith) (read_height _ _ alone h ∙ sym (up_last (length row) (line row) p (omega arith))) (rw ei at c.loop-i.invariant))

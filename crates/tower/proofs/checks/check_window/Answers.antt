@@ -1,7 +1,6 @@
-use Rattle.std.proofs.Common.{Some, sym, refl, ap, ◌∙◌, arith}
+use Rattle.std.proofs.Common.{Some, sym, ap, ◌∙◌, arith}
 use Rattle.std.proofs.lemmas.Result.{err_from_is_err_and}
 use Rattle.tower.proofs.Order.{window_levels, window_number, window_level, window_off, window_room, window_taken, on_true, both_on, few_places}
-use Rattle.tower.proofs.Sides.{level_within}
 use Rattle.tower.proofs.checks.check_window.Goals as goal
 
 pub returns-in_err-whole : goal.returns-in_err-whole
@@ -40,25 +39,15 @@ pub returns-then-room-wide : goal.returns-then-room-wide
 returns-then-room-wide c =
     let t = c.in_ok-whole.ensures in
     let s = c.in_ok-side.ensures in
-    let b = both_on _ _ _ _ _ c.if-not-on_map.ensures in
-    window_room _ _ _ _ _ _ _ _ t.levels _ t.value c.in_ok-check_length.ensures c.if-level-k.false _ s.value b.0 b.1 c.if-room-wide.true
-
-pub invariant_of-result : goal.invariant_of-result
-invariant_of-result c =
-    let s = c.in_ok-side.ensures in
-    let t = c.in_ok-whole.ensures in
     let n = c.in_ok-check_length.ensures in
-    let b = both_on _ _ _ _ _ c.if-not-on_map.ensures in
-    let q = c.square-size.ensures in
-    record { room = rw (q.0, q.1) (level_within _ _ _ _ c.if-level-k.false s.value (rw t.value at n)); across = rw q.0 (on_true _ _ _ b.0).1; down = rw q.1 (on_true _ _ _ b.1).1 }
-
-pub returns : goal.returns
-returns c =
-    let t = c.in_ok-whole.ensures in
-    let s = c.in_ok-side.ensures in
-    let n = c.in_ok-check_length.ensures in
-    let b = both_on _ _ _ _ _ c.if-not-on_map.ensures in
-    let q = c.square-size.ensures in (
-      window_taken _ _ _ _ _ _ _ _ t.levels _ t.value n c.if-level-k.false _ s.value b.0 b.1 c.if-room-wide.false,
-      record { levels = t.levels; level = c.if-level-k.false; side = rw q.0 s; square = q.1 ∙ sym q.0; tower = refl; whole = rw t.value at n; from = (refl, refl); extent = (refl, refl); room = c.if-room-wide.false },
+    let b = both_on _ _ _ _ _ c.if-not-on_map.ensures in (
+      window_taken _ _ _ _ _ _ _ _ t.levels _ t.value n c.if-level-k.false _ s.value b.0 b.1 c.if-room-wide.true,
+      record { levels = t.levels; level = c.if-level-k.false; side = s; whole = rw t.value at n; across = (on_true _ _ _ b.0).1; down = (on_true _ _ _ b.1).1; room = c.if-room-wide.true },
     )
+
+pub returns-else-room-wide : goal.returns-else-room-wide
+returns-else-room-wide c =
+    let t = c.in_ok-whole.ensures in
+    let s = c.in_ok-side.ensures in
+    let b = both_on _ _ _ _ _ c.if-not-on_map.ensures in
+    window_room _ _ _ _ _ _ _ _ t.levels _ t.value c.in_ok-check_length.ensures c.if-level-k.false _ s.value b.0 b.1 c.if-room-wide.false
