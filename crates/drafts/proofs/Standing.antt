@@ -1,5 +1,5 @@
 -- What a draft stands for after a row, and when the rows have ended. Assumes nothing.
-use Rattle.std.proofs.Common.{◌≡◌, ℕ, ◌+◌, ◌*◌, ◌<◌, ◌≤◌, List, [], ◌∷◌, ◌++◌, length, ℤ, Some, None, Ok, Err, vec_items, vec_len, Option, sym, refl, ap, ◌∙◌, ⊎_elim, mul-le-mul_right, mul-le-mul, arith, le-ltb, lt-ltb, eq-eqb}
+use Rattle.std.proofs.Common.{◌≡◌, ℕ, ◌+◌, ◌*◌, ◌<◌, ◌≤◌, List, [], ◌∷◌, ◌++◌, length, ℤ, Some, None, Ok, Err, vec_items, vec_len, Option, Result, true, is_ok, sym, refl, ap, ◌∙◌, ⊎_elim, mul-le-mul_right, mul-le-mul, arith, le-ltb, lt-ltb, eq-eqb}
 use Rattle.std.specs.Option.{option_map, option_or}
 use Rattle.std.proofs.lemmas.List.{flat_map_more}
 use Rattle.std.proofs.str.Laws.{order}
@@ -162,12 +162,13 @@ module _ {d : Draft} {g : Given} (o : Drafts d g) {side : ℕ} (w : Whole g (vec
       let m : n ≡ power g.k * power g.k = en ∙ rw w.side_of.value refl in
       rw (o.k, eh, m) (sym w.refusal)
 
-  pub finish_refused : (e : Refusal) → Answered (build_refusal d.k hs n) (Err e) Built was room (BuiltTower d.k hs room) → map_refusal g ≡ Some e
-  finish_refused e a = sym as_refused ∙ (refused_by _ e Built was room _ a).0
+  pub finish_refused : (r : Result Done Refusal) (e : Refusal) → r ≡ Err e → Answered (build_refusal d.k hs n) r Built was room (BuiltTower d.k hs room) → map_refusal g ≡ Some e
+  finish_refused r e er a = sym as_refused ∙ (refused_by _ e Built was room _ (rw er at a)).0
 
-  pub finish_taken : (done : Done) (v : Viewer) → v.k ≡ d.k → v.level ≡ 0 → vec_items v.tower ≡ room → Answered (build_refusal d.k hs n) (Ok done) Built was room (BuiltTower d.k hs room) → (map_refusal g ≡ None) × Shows v (map_given g)
+  pub finish_taken : (r : Result Done Refusal) (v : Viewer) → is_ok r ≡ true → v.k ≡ d.k → v.level ≡ 0 → vec_items v.tower ≡ room → Answered (build_refusal d.k hs n) r Built was room (BuiltTower d.k hs room) → (map_refusal g ≡ None) × Shows v (map_given g)
   unfolding map_given
-  finish_taken done v ek el et a =
+  finish_taken (Err e) v ok ek el et a = absurd (cc)
+  finish_taken (Ok done) v ok ek el et a =
       let t = taken_by _ done Built was room _ a in
       let built = rw (o.k, eh ∙ w.all) at t.1.holds in
       (sym as_refused ∙ t.0, record { k = ek ∙ o.k; level = el; holds = rw et built })

@@ -7,6 +7,8 @@ use Rattle.maps.specs.Limits.{max_k}
 use Rattle.tower.specs.Checks.{places, first_wrong, wrong_at, build_refusal}
 use Rattle.tower.specs.Known.{SideOf}
 use Rattle.refusals.specs.declared.Refusal.{Refusal}
+use Rattle.refusals.specs.Refusals.{refused_text}
+use Rattle.messages.specs.Writing.{failure_text}
 use Rattle.drafts.specs.declared.Draft.{Draft}
 use Rattle.drafts.specs.declared.MapError.{MapError}
 use Rattle.drafts.specs.declared.MapError.TheVariants.{Refused, OutOfMemory}
@@ -38,3 +40,8 @@ pub record Whole (g : Given) (heights : List ℤ) (side : ℕ) : Type 0 where
 abbrev pub Refuses : Option Refusal → MapError → Type 0
 Refuses refusal (Refused e) = refusal ≡ Some e
 Refuses refusal (OutOfMemory _) = Unit {0}
+
+-- how that prints
+abbrev pub error_text : MapError → List ℕ
+error_text (Refused e) = refused_text e
+error_text (OutOfMemory _) = failure_text

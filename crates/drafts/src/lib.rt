@@ -10,8 +10,11 @@ ghost use Rattle.drafts.specs.Drafts.{Drafts, Refuses, Whole};
 ghost use Rattle.drafts.specs.Given.{Given, map_given, map_refusal, no_rows, with_row};
 
 use maps::HeightMap;
+use messages::failure::Failure;
 use refusals::Refusal;
 use std::alloc::{AllocError, Global};
+use std::error::Error;
+use std::fmt;
 use tower::checks::side_of;
 use viewer::Viewer;
 
@@ -49,6 +52,25 @@ impl From<AllocError> for MapError {
         Self::OutOfMemory(failed)
     }
 }
+
+// The refusal as it prints, or want of memory.
+impl fmt::Display for MapError {
+    ghost use Rattle.drafts.specs.Drafts.{error_text};
+
+    ghost output = { λ e. Some (error_text e) };
+
+    fn fmt<W: fmt::Write>(&self, f: &mut fmt::Formatter<W>) -> fmt::Result {
+        match self {
+            MapError::Refused(refusal) => write!(f, "{refusal}"),
+            MapError::OutOfMemory(failed) => {
+                let failure = Failure::from(*failed);
+                write!(f, "{failure}")
+            }
+        }
+    }
+}
+
+impl Error for MapError {}
 
 // The height that a number is, if it is one.
 fn height_of(number: i64) -> Option<i32>

@@ -1,6 +1,7 @@
 -- The first line of a text and the first word of a line. Assumes nothing.
-use Rattle.std.proofs.Common.{◌≡◌, ℕ, zero, suc, ◌+◌, ◌-◌, ◌<◌, ◌≤◌, Bool, true, false, not, cond, ltb, List, [], ◌∷◌, ◌++◌, length, get_or, take, drop, unwrap_or, Some, None, Option, sym, refl, ap, ◌∙◌, append-nil, add-zero, arith, take-append-drop, length-drop, ltb-false}
+use Rattle.std.proofs.Common.{below_more, ⊎_elim, ◌≡◌, ℕ, zero, suc, ◌+◌, ◌-◌, ◌<◌, ◌≤◌, Bool, true, false, not, cond, ltb, List, [], ◌∷◌, ◌++◌, length, get_or, take, drop, unwrap_or, Some, None, Option, sym, refl, ap, ◌∙◌, append-nil, add-zero, arith, take-append-drop, length-drop, ltb-false}
 use Rattle.std.specs.List.{All, flat_map, slice_split, onto_first, position, position_or_len}
+use Rattle.std.proofs.lemmas.Bool.{cases_lt, lt-ltb, le-ltb, false≢true}
 use Rattle.std.proofs.lemmas.List.{get_or-take, get_or-drop, drop_all, length-take-le, take_rest}
 use Rattle.std.proofs.lemmas.List.Elements.{All-from_get_or}
 use Rattle.std.proofs.lemmas.List.Quantifiers.{position-Some}
@@ -16,6 +17,33 @@ Whole parts bs = All (λ b. parts b ≡ false) bs
 abbrev pub Parted : (ℕ → Bool) → List ℕ → Type 0
 Parted parts [] = Unit {0}
 Parted parts (b ∷ bs) = parts b ≡ true
+
+-- the first bytes, so many, do not pass a test
+abbrev pub Unmet : (ℕ → Bool) → List ℕ → ℕ → Type 0
+Unmet p bs n = (k : ℕ) → k < n → p (get_or bs k 0) ≡ false
+
+-- the first byte that does, as it is met on the way
+module _ (p : ℕ → Bool) (bs : List ℕ) where
+  pub unmet_more : (n : ℕ) → p (get_or bs n 0) ≡ false → Unmet p bs n → Unmet p bs (n + 1)
+  unmet_more n e o = below_more _ _ o e
+
+  met_at : (n : ℕ) → n ≤ length bs → Unmet p bs n → (n < length bs → p (get_or bs n 0) ≡ true) → position_or_len p bs ≡ n
+  met_at n h o e =
+      let m = position_or_len p bs in
+      let within : position_or_len p bs ≤ length bs = prefix_len-le-length (λ b. not (p b)) bs in
+      ⊎_elim
+      (λ (l : position_or_len p bs < n). absurd (false≢true (sym (o m l) ∙ passes_at_first p bs 0 (omega arith))))
+      (λ (g : n ≤ position_or_len p bs). ⊎_elim
+      (λ (l : n < position_or_len p bs). absurd (false≢true (sym (fails_before_first p bs n 0 l) ∙ e (omega arith))))
+      (λ (k : position_or_len p bs ≤ n). omega arith)
+      (cases_lt n m))
+      (cases_lt m n)
+
+  pub met : (n : ℕ) → n < length bs → Unmet p bs n → p (get_or bs n 0) ≡ true → Some n ≡ position p bs
+  met n h o e = let i = met_at n (omega arith) o (λ _. e) in rw (i, lt-ltb n (length bs) h) refl
+
+  pub unmet : Unmet p bs (length bs) → None ≡ position p bs
+  unmet o = let i = met_at (length bs) (omega arith) o (λ l. absurd (omega arith)) in rw (i, le-ltb (length bs) (length bs) (omega arith)) refl
 
 -- what `position` answers
 found : (p : ℕ → Bool) (bs : List ℕ) (i : ℕ) → Some i ≡ position p bs → position_or_len p bs ≡ i
@@ -102,13 +130,19 @@ some_word [] some e = absurd (omega arith)
 some_word (b ∷ bs) some e = rw e (omega arith)
 
 -- the first word of a line, and what follows it
-pub words_found : (line : List ℕ) (begin : ℕ) (text : List ℕ) (end : ℕ) → Some begin ≡ position (λ b. not (is_blank b)) line → text ≡ take (length line - begin) (drop begin line) → end ≡ position_or_len is_blank text → words line ≡ take end text ∷ words (drop end text)
-words_found line begin text end e et en =
-    let here = position-Some (λ b. not (is_blank b)) line begin 0 (sym e) in
-    let same : text ≡ drop begin line = et ∙ take_rest line begin in
-    let first : is_blank (get_or text 0 0) ≡ false =
-    ap (λ (l : List ℕ). is_blank (get_or l 0 0)) same ∙ ap is_blank (get_or-drop begin line 0 0 ∙ ap (λ (i : ℕ). get_or line i 0) (add-zero begin)) ∙ not_true _ here.1 in
-    words_skip line ∙ ap words (ap (λ (n : ℕ). drop n line) (found _ line begin e) ∙ sym same) ∙ rw en (words_cut text (some_word text (omega (arith, ap length same, length-drop begin line, here.0)) first))
+module _ (line : List ℕ) (begin : ℕ) (text : List ℕ) (e : Some begin ≡ position (λ b. not (is_blank b)) line) (et : text ≡ take (length line - begin) (drop begin line)) where
+  same : text ≡ drop begin line
+  same = et ∙ take_rest line begin
+
+  pub word_there : 0 < position_or_len is_blank text
+  word_there =
+      let here = position-Some (λ b. not (is_blank b)) line begin 0 (sym e) in
+      let first : is_blank (get_or text 0 0) ≡ false =
+      ap (λ (l : List ℕ). is_blank (get_or l 0 0)) same ∙ ap is_blank (get_or-drop begin line 0 0 ∙ ap (λ (i : ℕ). get_or line i 0) (add-zero begin)) ∙ not_true _ here.1 in
+      some_word text (omega (arith, ap length same, length-drop begin line, here.0)) first
+
+  pub words_found : (end : ℕ) → end ≡ position_or_len is_blank text → words line ≡ take end text ∷ words (drop end text)
+  words_found end en = words_skip line ∙ ap words (ap (λ (n : ℕ). drop n line) (found _ line begin e) ∙ sym same) ∙ rw en (words_cut text word_there)
 
 -- lines
 

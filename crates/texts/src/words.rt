@@ -1,5 +1,5 @@
 // Lines and words cut out of a text, and numbers read from words.
-ghost use Rattle.std.specs.Prelude.{◌≡◌, ◌^◌, pos, not};
+ghost use Rattle.std.specs.Prelude.{◌≡◌, ◌^◌, ◌<◌, [], ◌∷◌, length, pos, not, MatchOption};
 ghost use Rattle.std.specs.Iterator.{YieldsFirstRef, item_count};
 ghost use Rattle.std.specs.List.{position};
 ghost use Rattle.std.specs.Option.{option_map};
@@ -8,11 +8,30 @@ ghost use Rattle.texts.specs.Words.{height_number, is_blank, is_end, lines, numb
 use std::marker::Model;
 
 // Where the first line ends, if a line end is there. The three searches stand by themselves: with the
-// test as a parameter each caller would have to say what its closure does.
+// test as a parameter each caller would have to say what its closure does. They are loops and not `position`,
+// by which a row of short words took a quarter more instructions to read.
 fn find_end(text: &[u8]) -> Option<usize>
     ensures { result ≡ position is_end text.now }
 {
-    text.iter().position(|byte| *byte == b'\n')
+    for (i, byte) in text.iter().enumerate() {
+        if *byte == b'\n' {
+            return Some(i);
+        }
+    }
+    None
+}
+
+// The first line of a text, without its end, and what follows it, if there is something.
+pub fn next_line<'a>(text: &'a [u8]) -> Option<(&'a [u8], &'a [u8])>
+    ensures { MatchOption result (lines text.now ≡ []) (λ cut. (lines text.now ≡ cut.0.now ∷ lines cut.1.now) × (length cut.1.now < length text.now)) }
+{
+    if text.is_empty() {
+        return None;
+    }
+    match find_end(text) {
+        Some(end) => Some((&text[..end], &text[end + 1..])),
+        None => Some((text, &text[text.len()..])),
+    }
 }
 
 // The lines of a text that are left, each without its end: seen as the list of them.
@@ -47,42 +66,51 @@ impl<'a> Iterator for Lines<'a> {
     ghost remaining = { item_count (λ left. left) };
 
     fn next(&mut self) -> Option<&'a [u8]> {
-        let text = self.rest;
-        if text.is_empty() {
-            return None;
-        }
-        match find_end(text) {
-            Some(end) => {
-                self.rest = &text[end + 1..];
-                Some(&text[..end])
-            }
-            None => {
-                self.rest = &[];
-                Some(text)
-            }
-        }
+        let (line, rest) = next_line(self.rest)?;
+        self.rest = rest;
+        Some(line)
     }
 }
 
-// What parts words.
+// What parts words. By `matches!` this took half as many instructions again for each byte of a long word.
 fn parts_words(byte: u8) -> bool
     ensures { result ≡ is_blank byte }
 {
-    matches!(byte, b' ' | b'\t' | b'\r' | b'\n')
+    byte == b' ' || byte == b'\t' || byte == b'\r' || byte == b'\n'
 }
 
 // Where the first word begins.
 fn find_word(text: &[u8]) -> Option<usize>
     ensures { result ≡ position (λ b. not (is_blank b)) text.now }
 {
-    text.iter().position(|byte| !parts_words(*byte))
+    for (i, byte) in text.iter().enumerate() {
+        if !parts_words(*byte) {
+            return Some(i);
+        }
+    }
+    None
 }
 
 // Where the word ends that begins a text, if something parts it from what follows.
 fn find_blank(text: &[u8]) -> Option<usize>
     ensures { result ≡ position is_blank text.now }
 {
-    text.iter().position(|byte| parts_words(*byte))
+    for (i, byte) in text.iter().enumerate() {
+        if parts_words(*byte) {
+            return Some(i);
+        }
+    }
+    None
+}
+
+// The first word of a line and what follows it, if it has a word.
+pub fn next_word<'a>(line: &'a [u8]) -> Option<(&'a [u8], &'a [u8])>
+    ensures { MatchOption result (words line.now ≡ []) (λ cut. (words line.now ≡ cut.0.now ∷ words cut.1.now) × (length cut.1.now < length line.now)) }
+{
+    let begin = find_word(line)?;
+    let text = &line[begin..];
+    let end = find_blank(text).unwrap_or(text.len());
+    Some((&text[..end], &text[end..]))
 }
 
 // The words of a line that are left: seen as the list of them.
@@ -117,9 +145,7 @@ impl<'a> Iterator for Words<'a> {
     ghost remaining = { item_count (λ left. left) };
 
     fn next(&mut self) -> Option<&'a [u8]> {
-        let begin = find_word(self.rest)?;
-        let text = &self.rest[begin..];
-        let (word, rest) = text.split_at(find_blank(text).unwrap_or(text.len()));
+        let (word, rest) = next_word(self.rest)?;
         self.rest = rest;
         Some(word)
     }
