@@ -24,7 +24,7 @@ impl Grid {
     }
 
     // The number at a place, and 0 beyond.
-    fn at(&self, x: usize, y: usize) -> i64 {
+    pub fn at(&self, x: usize, y: usize) -> i64 {
         self.cells.get(self.index(x, y)).copied().unwrap_or(0)
     }
 

@@ -3,16 +3,16 @@ use crate::refused::Refused;
 use messages::command::Command;
 use std::fmt;
 
-#[derive(Default, Drop)]
+#[derive(Clone, Copy, Default)]
 pub struct Tally {
     pub lines: u64,
     pub maps: u64,
-    windows: u64,
-    others: u64,
-    too_many_levels: u64,
-    wrong_numbers: u64,
-    not_there: u64,
-    unreadable: u64,
+    pub windows: u64,
+    pub others: u64,
+    pub too_many_levels: u64,
+    pub wrong_numbers: u64,
+    pub not_there: u64,
+    pub unreadable: u64,
 }
 
 impl Tally {

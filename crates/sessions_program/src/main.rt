@@ -2,19 +2,27 @@
 #![tactic(auto)]
 
 use sessions::Session;
+use std::io;
 use std::io::{BufRead, BufReader};
 
-// An error ends the program with a message, which the runtime prints, and status 1.
-fn main(rt: HostRuntime) -> anyhow::Result<()> {
+// Each line is a piece of the text that ends with its line, as the law `runs_in_pieces` has it, so its end is put back to it. To
+// the last line that may be one more than it had: then it is the same line.
+fn answer_lines(rt: &HostRuntime) -> io::Result<()> {
     let alloc = rt.alloc();
     let mut session = Session::new();
     for line in BufReader::new(alloc, rt.stdin())?.split(alloc, b'\n') {
+        let mut line = line?;
+        line.push(b'\n')?;
         let mut answer = String::new(alloc);
-        session.take_line(alloc, &line?, &mut answer)?;
+        session.run(alloc, &line, &mut answer)?;
         rt.print(answer.as_str())?;
     }
     let mut answer = String::new(alloc);
     session.end_rows(alloc, &mut answer)?;
-    rt.print(answer.as_str())?;
-    Ok(())
+    rt.print(answer.as_str())
+}
+
+// An error ends the program with a message, which the runtime prints, and status 1. Want of memory is told as where a line is read.
+fn main(rt: HostRuntime) -> anyhow::Result<()> {
+    Ok(answer_lines(&rt)?)
 }

@@ -22,15 +22,15 @@ struct Program<'a> {
 
 impl Program<'_> {
     // What is refused is printed, and the program goes on.
-    fn settle(&self, done: Result<(), Stop>) -> anyhow::Result<()> {
-        match done {
-            Ok(()) => {}
-            Err(Stop::Refused(refusal)) => {
+    fn settle(&self, stop: Stop) -> anyhow::Result<()> {
+        match stop {
+            Stop::Refused(refusal) => {
                 println!(self.rt; "{refusal}")?;
+                Ok(())
             }
-            Err(Stop::Failed(error)) => return Err(error),
+            Stop::OutOfMemory(error) => Err(error.into()),
+            Stop::Failed(error) => Err(error.into()),
         }
-        Ok(())
     }
 
     fn take_map(&mut self) -> Result<(), Stop> {
@@ -42,15 +42,14 @@ impl Program<'_> {
 
     // The rows that were read, if any, become what is shown.
     fn end_rows(&mut self) -> anyhow::Result<()> {
-        let taken = self.take_map();
-        self.settle(taken)
+        match self.take_map() {
+            Ok(()) => Ok(()),
+            Err(stop) => self.settle(stop),
+        }
     }
 
     // A line that is no row of a map.
     fn ask(&mut self, line: &str, at: u64) -> Result<(), Stop> {
-        if line.trim().is_empty() {
-            return Ok(());
-        }
         match (read_command(line), &mut self.shown) {
             (Some(Command::Map { k }), _) => self.rows = Some(Rows::new(self.rt.alloc(), k)),
             (Some(command), Some(shown)) => shown.obey(self.rt, command)?,
@@ -59,17 +58,24 @@ impl Program<'_> {
         Ok(())
     }
 
-    // One line: a row of a map, or a command, which ends the rows before it.
+    // One line: a row of a map, or a command, which ends the rows before it. Only where rows are read is it asked which.
     fn take_line(&mut self, line: &str, at: u64) -> anyhow::Result<()> {
-        if is_row(line) {
-            if let Some(rows) = &mut self.rows {
-                let added = rows.add(line, at);
-                return self.settle(added);
+        if let Some(rows) = &mut self.rows {
+            if is_row(line) {
+                return match rows.add(line, at) {
+                    Ok(()) => Ok(()),
+                    Err(stop) => self.settle(stop),
+                };
             }
+            self.end_rows()?;
         }
-        self.end_rows()?;
-        let answered = self.ask(line, at);
-        self.settle(answered)
+        if line.trim().is_empty() {
+            return Ok(());
+        }
+        match self.ask(line, at) {
+            Ok(()) => Ok(()),
+            Err(stop) => self.settle(stop),
+        }
     }
 }
 

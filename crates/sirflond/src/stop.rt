@@ -1,4 +1,5 @@
-// Why a line is not obeyed to its end: it is refused, or the program cannot go on, by any error of its own.
+// Why a line is not obeyed to its end: it is refused, or the program cannot go on. What failed is kept as it is, since it goes
+// through each line's steps by value, and becomes the program's error where that ends.
 use refusals::Refusal;
 use std::alloc::AllocError;
 use std::io;
@@ -6,7 +7,8 @@ use std::io;
 #[derive(Debug, Drop)]
 pub enum Stop {
     Refused(Refusal),
-    Failed(anyhow::Error),
+    OutOfMemory(AllocError),
+    Failed(io::Error),
 }
 
 impl From<Refusal> for Stop {
@@ -17,12 +19,12 @@ impl From<Refusal> for Stop {
 
 impl From<AllocError> for Stop {
     fn from(error: AllocError) -> Stop {
-        Stop::Failed(error.into())
+        Stop::OutOfMemory(error)
     }
 }
 
 impl From<io::Error> for Stop {
     fn from(error: io::Error) -> Stop {
-        Stop::Failed(error.into())
+        Stop::Failed(error)
     }
 }

@@ -88,7 +88,7 @@ impl Case {
     fn is_right(&self) -> Result<bool, AllocError> {
         let mut anew = vec![in self.alloc; 0; self.map.heights.len()]?;
         let built = build(self.k, &self.map.heights, &mut anew);
-        Ok(built.is_ok() && anew == self.tower)
+        Ok(built == Ok(Done::Built) && anew == self.tower)
     }
 
     // Whether a window of the tower shows what the copy has there.
@@ -96,7 +96,7 @@ impl Case {
         let Window { x, y, wide, high } = part;
         let mut room = vec![in self.alloc; 7; (wide.wrapping_mul(high) % 65536) as usize]?;
         let shown = window(self.k, &self.tower, level, x, y, wide, high, &mut room);
-        Ok(shown.is_ok() && room == copy.window(self.alloc, part)?)
+        Ok(shown == Ok(Done::Shown) && room == copy.window(self.alloc, part)?)
     }
 
     // How many windows of all levels agree.
@@ -124,7 +124,7 @@ impl Case {
         let y = random.below(self.map.side);
         let height = height(random);
         let before = self.tower.clone()?;
-        if change(self.k, &mut self.tower, x, y, u64::from(height)).is_err() {
+        if change(self.k, &mut self.tower, x, y, u64::from(height)) != Ok(Done::Changed) {
             return Ok(false);
         }
         self.map.set(x, y, height);

@@ -8,6 +8,7 @@ use crate::case::Case;
 use chance::Random;
 use std::alloc::{AllocError, Global};
 use std::fmt;
+use tower::Done;
 
 // What agrees of the maps of k levels.
 #[derive(Default, Drop)]
@@ -36,7 +37,8 @@ impl fmt::Display for Agreed {
 impl Agreed {
     // A map: built, shown, changed a few times, and shown again.
     fn add(&mut self, random: &mut Random, case: &mut Case) -> Result<(), AllocError> {
-        self.maps = self.maps.wrapping_add(u64::from(case.build().is_ok()));
+        let built = case.build() == Ok(Done::Built);
+        self.maps = self.maps.wrapping_add(u64::from(built));
         self.windows = self.windows.wrapping_add(case.windows_agree(random)?);
         for _ in 0..10 {
             let agrees = case.change_agrees(random)?;
