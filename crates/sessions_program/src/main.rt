@@ -5,14 +5,17 @@ use sessions::Session;
 use std::io;
 use std::io::{BufRead, BufReader};
 
-// Each line is a piece of the text that ends with its line, as the law `runs_in_pieces` has it, so its end is put back to it. To
-// the last line that may be one more than it had: then it is the same line.
+// Each line is handed on with its end, as a piece of the text of which the law `runs_in_pieces` speaks. Not read by `split`, which
+// takes the ends off: to put one back can want memory.
 fn answer_lines(rt: &HostRuntime) -> io::Result<()> {
     let alloc = rt.alloc();
     let mut session = Session::new();
-    for line in BufReader::new(alloc, rt.stdin())?.split(alloc, b'\n') {
-        let mut line = line?;
-        line.push(b'\n')?;
+    let mut input = BufReader::new(alloc, rt.stdin())?;
+    for _ in 0..u64::MAX {
+        let mut line = Vec::new(alloc);
+        if input.read_until(b'\n', &mut line)? == 0 {
+            break;
+        }
         let mut answer = String::new(alloc);
         session.run(alloc, &line, &mut answer)?;
         rt.print(answer.as_str())?;
